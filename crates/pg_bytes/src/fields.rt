@@ -1,0 +1,57 @@
+//! Fields of a text.
+
+ghost use Rattle.std.specs.Prelude.{◌≡◌, ◌+◌, ◌≤◌, ◌↔◌, length, drop, IsSome, IfSome};
+ghost use Rattle.pg_bytes.specs.Fields.{field, be32_at, be64_at, le32_at, le64_at};
+
+use byteorder::{BigEndian, ByteOrder, LittleEndian};
+
+/// A part of a text: `len` bytes from the byte `at` on, which is counted from 0.
+#[derive(Clone, Copy, Debug, PartialEq, Eq)]
+pub struct Range {
+    pub at: u64,
+    pub len: u64,
+}
+
+/// The bytes from a place on; `None` exactly where fewer than `size` stand there.
+fn rest_from(bytes: &[u8], at: u64, size: usize) -> Option<&[u8]>
+    ensures reaches { IsSome result ↔ (at + size ≤ length bytes.now) }
+    ensures rest { IfSome result (λ rest. (rest.now ≡ drop at bytes.now) × (size ≤ length rest.now)) }
+{
+    let end = at.checked_add(size as u64)?;
+    if end > bytes.len() as u64 {
+        return None;
+    }
+    Some(&bytes[at as usize..])
+}
+
+/// The big-endian number of the four bytes at `at`; `None` exactly where they pass the end.
+#[tactic(auto, unfolding(crate::specs::Fields::be32_at))]
+pub fn be32(bytes: &[u8], at: u64) -> Option<u32>
+    ensures { result ≡ field 4 bytes.now at (be32_at bytes.now at) }
+{
+    Some(BigEndian::read_u32(rest_from(bytes, at, 4)?))
+}
+
+/// The big-endian number of the eight bytes at `at`; `None` exactly where they pass the end.
+#[tactic(auto, unfolding(crate::specs::Fields::be64_at))]
+pub fn be64(bytes: &[u8], at: u64) -> Option<u64>
+    ensures { result ≡ field 8 bytes.now at (be64_at bytes.now at) }
+{
+    Some(BigEndian::read_u64(rest_from(bytes, at, 8)?))
+}
+
+/// The little-endian number of the four bytes at `at`; `None` exactly where they pass the end.
+#[tactic(auto, unfolding(crate::specs::Fields::le32_at))]
+pub fn le32(bytes: &[u8], at: u64) -> Option<u32>
+    ensures { result ≡ field 4 bytes.now at (le32_at bytes.now at) }
+{
+    Some(LittleEndian::read_u32(rest_from(bytes, at, 4)?))
+}
+
+/// The little-endian number of the eight bytes at `at`; `None` exactly where they pass the end.
+#[tactic(auto, unfolding(crate::specs::Fields::le64_at))]
+pub fn le64(bytes: &[u8], at: u64) -> Option<u64>
+    ensures { result ≡ field 8 bytes.now at (le64_at bytes.now at) }
+{
+    Some(LittleEndian::read_u64(rest_from(bytes, at, 8)?))
+}
