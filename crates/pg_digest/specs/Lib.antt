@@ -1,0 +1,5 @@
+pub mod DigestLaws
+pub mod Digests
+pub mod Kinds
+pub mod Room
+pub mod RoomLaws
