@@ -1,0 +1,5 @@
+pub mod Calls
+pub mod Files
+pub mod InMemory
+pub mod Sink
+pub use Rattle.pg_bytes.specs.Counts
