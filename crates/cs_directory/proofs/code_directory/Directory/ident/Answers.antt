@@ -1,0 +1,20 @@
+use Rattle.std.proofs.Common.{arith, length-take, refl}
+use Rattle.cs_directory.specs.Directory.{ident_at}
+use Rattle.cs_directory.proofs.DirectoryFacts.{IsDirectory-along, IsInside-from}
+use Rattle.cs_directory.proofs.code_directory.Directory.ident.Goals as goal
+
+pub front-requires : goal.front-requires
+front-requires c =
+    let inside = IsInside-from _ _ (IsDirectory-along _ c.self.view_is c.requires) in
+    omega arith
+
+pub behind-requires : goal.behind-requires
+behind-requires c =
+    let inside = IsInside-from _ _ (IsDirectory-along _ c.self.view_is c.requires) in
+    rw c.front.ensures (omega (arith, length-take c.self.inside.length c.args.bytes.now))
+
+pub returns : goal.returns
+unfolding ident_at
+returns c =
+    let known = IsDirectory-along _ c.self.view_is c.requires in
+    rw (c.before_zero.ensures, c.behind.ensures, c.front.ensures, known.fields.length, known.fields.ident_offset) refl

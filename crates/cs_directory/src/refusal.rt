@@ -1,0 +1,41 @@
+//! Why bytes are no code directory.
+
+use thiserror::Error;
+
+/// The first rule, in this order, that the bytes break.
+#[derive(Clone, Copy, Debug, PartialEq, Eq, Error)]
+pub enum DirRefusal {
+    /// There are fewer bytes than the shortest header has.
+    #[error("too short for a code directory")]
+    Short,
+    /// The bytes do not begin with the magic of a code directory.
+    #[error("not the magic of a code directory")]
+    BadMagic,
+    /// The length is below that of the version's header, or above the bytes given.
+    #[error("bad length")]
+    LengthBad,
+    /// The version `v` is not from 0x20000 to 0x2ffff.
+    #[error("version {v} is not known")]
+    Version { v: u64 },
+    /// A hash page has 2 to the power `n` bytes and not 4,096.
+    #[error("page size 2^{n} is not known")]
+    PageSize { n: u64 },
+    /// The number `n` is no hash type.
+    #[error("hash type {n} is not known")]
+    HashType { n: u64 },
+    /// A slot has `n` bytes, other than the hash type gives.
+    #[error("slots of {n} bytes do not fit the hash type")]
+    HashSize { n: u64 },
+    /// The special slots begin before the directory, or the code slots end behind it.
+    #[error("slots outside the directory")]
+    SlotsOut,
+    /// There is a scatter vector.
+    #[error("scatter vector")]
+    Scatter,
+    /// The identifier begins behind the directory, or no zero byte ends it there.
+    #[error("bad identifier")]
+    IdentBad,
+    /// The team identifier begins behind the directory, or no zero byte ends it there.
+    #[error("bad team identifier")]
+    TeamBad,
+}
