@@ -1,0 +1,15 @@
+pub mod WordFacts
+pub mod LineFacts
+pub mod TouchFacts
+pub mod PlayFacts
+pub mod LegalFacts
+pub mod MembershipFacts
+pub mod LinkFacts
+pub mod ScriptFacts
+pub mod PageFacts
+pub mod FileFacts
+pub mod ProcessFacts
+pub mod SealingFacts
+pub mod OpeningFacts
+pub mod UniqueFacts
+pub mod EndingFacts

@@ -1,0 +1,17 @@
+pub mod Words
+pub mod Lines
+pub mod Scene
+pub mod Membership
+pub mod Pages
+pub mod Flags
+pub mod Machine
+pub mod Steps
+pub mod Calls
+pub mod Legal
+pub mod Sealing
+pub mod Journal
+pub mod View
+pub mod ProcessView
+pub mod Play
+pub mod Ending
+pub mod EndingView
