@@ -1,0 +1,72 @@
+//! Why bytes are no SuperBlob.
+
+use std::alloc::{AllocError, AllocFailed};
+use thiserror::Error;
+
+/// The first rule, in this order, that the bytes break.
+#[derive(Clone, Copy, Debug, PartialEq, Eq, Error)]
+pub enum SuperRefusal {
+    /// There are fewer bytes than the header has, 12.
+    #[error("too short for a SuperBlob")]
+    Short,
+    /// The bytes begin with `magic`, which is not that of an embedded signature.
+    #[error("{magic:#x} is not the magic of an embedded signature")]
+    BadMagic { magic: u64 },
+    /// The length is below that of the header, or above the bytes given.
+    #[error("bad length")]
+    LengthBad,
+    /// There are more than 1,024 entries, or the table ends behind the SuperBlob.
+    #[error("bad number of entries")]
+    CountBad,
+    /// The blob of entry `index`, counted from 0, begins within the table, is shorter than its own header, or
+    /// ends behind the SuperBlob.
+    #[error("entry {index} is out of place")]
+    EntryOut { index: u64 },
+    /// Two entries have the type `slot`.
+    #[error("two entries of type {slot:#x}")]
+    Twice { slot: u64 },
+}
+
+/// Why there is no index.
+#[derive(Clone, Copy, Debug, PartialEq, Eq, Error)]
+pub enum SuperFail {
+    /// The bytes are no SuperBlob.
+    #[error(transparent)]
+    Refused(SuperRefusal),
+    /// Memory ran out.
+    #[error("out of memory")]
+    NoMemory,
+}
+
+impl From<SuperRefusal> for SuperFail {
+    ghost use Rattle.std.specs.Prelude.{◌≡◌};
+    ghost use Rattle.cs_superblob.specs.declared.refusal.SuperFail.TheVariants.{Refused};
+
+    ghost from_gives = { λ refusal fail. fail ≡ Refused refusal };
+
+    fn from(refusal: SuperRefusal) -> SuperFail {
+        SuperFail::Refused(refusal)
+    }
+}
+
+impl From<AllocError> for SuperFail {
+    ghost use Rattle.std.specs.Prelude.{◌≡◌};
+    ghost use Rattle.cs_superblob.specs.declared.refusal.SuperFail.TheVariants.{NoMemory};
+
+    ghost from_gives = { λ _ fail. fail ≡ NoMemory };
+
+    fn from(_error: AllocError) -> SuperFail {
+        SuperFail::NoMemory
+    }
+}
+
+impl<T: Drop> From<AllocFailed<T>> for SuperFail {
+    ghost use Rattle.std.specs.Prelude.{◌≡◌};
+    ghost use Rattle.cs_superblob.specs.declared.refusal.SuperFail.TheVariants.{NoMemory};
+
+    ghost from_gives = { λ _ fail. fail ≡ NoMemory };
+
+    fn from(_failed: AllocFailed<T>) -> SuperFail {
+        SuperFail::NoMemory
+    }
+}
