@@ -5,6 +5,7 @@ use Rattle.std.specs.Str.{bytes_eq}
 use Rattle.std.specs.Io.KnownBytes.{append_known}
 use Rattle.std.specs.List.{list_any}
 use Rattle.std.specs.Option.{option_or}
+use Rattle.std.specs.Result.{result_err}
 use Rattle.std.proofs.lemmas.Bool.{cases_lt, lt-ltb}
 use Rattle.std.proofs.lemmas.List.{take_all, length-take}
 use Rattle.pg_bytes.specs.declared.Status.TheVariants as status
@@ -219,6 +220,7 @@ runs_legal hash words told before now done wrote =
     ap (λ (o : Result (Plan × List ℕ) Ending). (ended hash o).text) at.1 in
     record {
       scene = scene;
+      not_early = ap result_err at.1;
       opens = at.1;
       text = journal (history_of hash scene.0 scene.1) (length (calls_of scene.0));
       wrote = wrote ∙ ap (append_known before) same;

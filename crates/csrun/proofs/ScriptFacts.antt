@@ -7,7 +7,7 @@ use Rattle.csrun.specs.Membership.{IsIn}
 use Rattle.csrun.specs.Machine.{Machine}
 use Rattle.csrun.specs.Steps.{Hash, after}
 use Rattle.csrun.specs.Calls.{Call, Spawn, Map, Attach, WriteByte, Fault, next_event, entry_of, enter_then, entries_from, entries_of, replay, solo}
-use Rattle.csrun.specs.Legal.{IsLinked, Linked, Follows, AreOf, Scripted, Legal}
+use Rattle.csrun.specs.Legal.{IsLinked, Links, Follows, AreOf, Scripted, Legal}
 use Rattle.csrun.proofs.MembershipFacts.{IsIn-right, IsIn-left}
 use Rattle.csrun.proofs.LinkFacts.{some_is, Precedes, linked_insert, linked_resolve, linked_enter, linked_read, linked_lookup}
 use Rattle.csrun.proofs.LegalFacts.{entries_from-IsCall, solo-Stamped, solo-Answered}
@@ -83,7 +83,7 @@ all_precede number before e (x ∷ made) own worker call stands = (
 -- the entries follow what the call has made, and are linked, where these stood before the call
 pub record IsPlayed (hash : Hash) (pages : ℕ) (call : Call) (front made es : List Entry) : Type 0 where
   pub follows : Follows hash pages call made es
-  pub links : Linked hash pages (front ++ made) es
+  pub links : Links hash pages (front ++ made) es
 
 played_then : (hash : Hash) (pages : ℕ) (m : Machine) (stamp number : ℕ) (call : Call) (front made : List Entry) (rest : Machine → List Entry → List Entry) (next : Option Event)
     → next_event hash pages call made ≡ next → Came hash pages call [] made → AreOf number made
@@ -99,7 +99,7 @@ played_then hash pages m stamp number call front made rest (Some event) is came 
       follows = (is, others.follows);
       links = (
         linked_next hash pages call made (front ++ made) e event is came (all_precede number (front ++ made) e made own refl refl (λ x here. IsIn-right x front made here)),
-        subst (λ (xs : List Entry). Linked hash pages xs (rest (after hash m event) (made ++ e ∷ []))) regrouped others.links,
+        subst (λ (xs : List Entry). Links hash pages xs (rest (after hash m event) (made ++ e ∷ []))) regrouped others.links,
       );
     }
 
@@ -115,27 +115,27 @@ played_from (suc k) hash pages m stamp number call front made long came own =
 
 -- ---- the whole script
 
-Linked-append : (hash : Hash) (pages : ℕ) (before xs ys : List Entry) → Linked hash pages before xs → Linked hash pages (before ++ xs) ys → Linked hash pages before (xs ++ ys)
-Linked-append hash pages before [] ys here rest = subst (λ (zs : List Entry). Linked hash pages zs ys) (append-nil before) rest
-Linked-append hash pages before (x ∷ xs) ys here rest = (
+Links-append : (hash : Hash) (pages : ℕ) (before xs ys : List Entry) → Links hash pages before xs → Links hash pages (before ++ xs) ys → Links hash pages before (xs ++ ys)
+Links-append hash pages before [] ys here rest = subst (λ (zs : List Entry). Links hash pages zs ys) (append-nil before) rest
+Links-append hash pages before (x ∷ xs) ys here rest = (
   here.0,
-  Linked-append hash pages (before ++ x ∷ []) xs ys here.1
-      (subst (λ (zs : List Entry). Linked hash pages zs ys) (sym (append_assoc before (x ∷ []) xs)) rest),
+  Links-append hash pages (before ++ x ∷ []) xs ys here.1
+      (subst (λ (zs : List Entry). Links hash pages zs ys) (sym (append_assoc before (x ∷ []) xs)) rest),
 )
 
 played_call : (hash : Hash) (pages : ℕ) (m : Machine) (stamp number : ℕ) (call : Call) (before : List Entry)
     → IsPlayed hash pages call before [] (entries_of hash pages m stamp number call)
 played_call hash pages m stamp number call before = played_from 3 hash pages m stamp number call before [] refl tt tt
 
-solo-Linked : (hash : Hash) (pages : ℕ) (m : Machine) (stamp number : ℕ) (calls : List Call) (before : List Entry)
-    → Linked hash pages before (solo hash pages m stamp number calls)
+solo-Links : (hash : Hash) (pages : ℕ) (m : Machine) (stamp number : ℕ) (calls : List Call) (before : List Entry)
+    → Links hash pages before (solo hash pages m stamp number calls)
 unfolding solo
-solo-Linked hash pages m stamp number [] before = tt
-solo-Linked hash pages m stamp number (call ∷ calls) before =
+solo-Links hash pages m stamp number [] before = tt
+solo-Links hash pages m stamp number (call ∷ calls) before =
     let es : List Entry = entries_of hash pages m stamp number call in
-    Linked-append hash pages before es _
-    (subst (λ (zs : List Entry). Linked hash pages zs es) (append-nil before) (played_call hash pages m stamp number call before).links)
-    (solo-Linked hash pages (replay hash m es) (stamp + length es) (number + 1) calls (before ++ es))
+    Links-append hash pages before es _
+    (subst (λ (zs : List Entry). Links hash pages zs es) (append-nil before) (played_call hash pages m stamp number call before).links)
+    (solo-Links hash pages (replay hash m es) (stamp + length es) (number + 1) calls (before ++ es))
 
 solo-Scripted : (hash : Hash) (pages : ℕ) (m : Machine) (stamp number : ℕ) (calls : List Call)
     → Scripted hash pages number calls (solo hash pages m stamp number calls)
@@ -157,6 +157,6 @@ pub solo-Legal : (hash : Hash) (pages : ℕ) (opening : Machine) (calls : List C
 solo-Legal hash pages opening calls = record {
   stamps = solo-Stamped hash pages opening 0 0 calls;
   replies = solo-Answered hash pages opening 0 0 calls;
-  links = solo-Linked hash pages opening 0 0 calls [];
+  links = solo-Links hash pages opening 0 0 calls [];
   script = solo-Scripted hash pages opening 0 0 calls;
 }

@@ -24,7 +24,7 @@ use Rattle.csrun.specs.Flags.{guarded, with_valid}
 use Rattle.csrun.specs.Machine.{Machine, PlainFile, PlainProcess}
 use Rattle.csrun.specs.Steps.{Hash, stripped, attach_beside, attach_step, write_byte, enter_page, meets, file_step, process_step, reply_of, after}
 use Rattle.csrun.specs.Calls.{replay}
-use Rattle.csrun.specs.Legal.{Answered, IsLinked, Linked, AttachesAdmitted}
+use Rattle.csrun.specs.Legal.{Answered, IsLinked, Links, AttachesAdmitted}
 use Rattle.csrun.specs.Sealing.{IsOpening, content, content_after, Sealed, Admitted, IsSealedNow, SealInv, SealedThroughout}
 use Rattle.csrun.proofs.MembershipFacts.{IsIn-left, IsIn-right, IsIn-either}
 use Rattle.csrun.proofs.FileFacts.{FileSealed, SealedBy, sealed_by_write, sealed_by_enter, sealed_by_more, enter_same}
@@ -218,7 +218,7 @@ keeps_step hash bytes pages m before e (event.Trust ev) is answer linked kept =
 -- ---- whole histories
 
 keeps_all : (hash : Hash) (bytes : List ℕ) (pages : ℕ) (m : Machine) (front es later : List Entry) → Keeps hash bytes m front
-    → Answered hash m (es ++ later) → Linked hash pages front (es ++ later) → Keeps hash bytes (replay hash m es) (front ++ es)
+    → Answered hash m (es ++ later) → Links hash pages front (es ++ later) → Keeps hash bytes (replay hash m es) (front ++ es)
 keeps_all hash bytes pages m front [] later kept replies links =
     subst (λ (xs : List Entry). Keeps hash bytes m xs) (sym (append-nil front)) kept
 keeps_all hash bytes pages m front (x ∷ es) later kept replies links =
@@ -251,9 +251,9 @@ keeps_opening hash m open' = record {
 -- The law: whatever history the machine goes through, while its replies and links are right, the sealing holds
 -- throughout.
 pub legal_is_sealed : (hash : Hash) (pages : ℕ) (opening : Machine) (history : List Entry) → IsOpening opening
-    → Answered hash opening history → Linked hash pages [] history → SealedThroughout hash opening history
+    → Answered hash opening history → Links hash pages [] history → SealedThroughout hash opening history
 legal_is_sealed hash pages opening history open' replies links before later whole =
     keeps_sealing hash opening.file.content (replay hash opening before) before
     (keeps_all hash opening.file.content pages opening [] before later (keeps_opening hash opening open')
     (subst (λ (xs : List Entry). Answered hash opening xs) whole replies)
-    (subst (λ (xs : List Entry). Linked hash pages [] xs) whole links))
+    (subst (λ (xs : List Entry). Links hash pages [] xs) whole links))

@@ -2,6 +2,7 @@
 use Rattle.std.specs.Prelude.{◌≡◌, ◌≢◌, ◌≤◌, ℕ, ◌+◌, ◌*◌, Bool, true, false, not, nat_lt, nat_le, ◌==◌, List, [], ◌∷◌, ◌++◌, map, length, take, drop, codes, Option, Some, None, is_some, option_map, position, Result, Ok, Err, if◌then◌else◌}
 use Rattle.std.specs.Fmt.{decimal}
 use Rattle.std.specs.Option.{option_or}
+use Rattle.std.specs.Result.{result_err}
 use Rattle.std.specs.Str.{bytes_eq}
 use Rattle.std.specs.Io.KnownBytes.{append_known}
 use Rattle.pg_bytes.specs.Counts.{Rose}
@@ -146,6 +147,10 @@ abbrev pub opened : Hash → List (List ℕ) → Told → Result (Plan × List �
 opened hash (path ∷ []) told = opened_scene hash told (next_read told path)
 opened hash _ told = Err usage
 
+-- how a run ends before its machine is opened, or none
+abbrev pub early : Hash → List (List ℕ) → Told → Option Ending
+early hash words told = result_err (opened hash words told)
+
 -- how a run ends that was opened so: at its early end, or with the journal of its script's history
 abbrev pub ended : Hash → Result (Plan × List ℕ) Ending → Ending
 ended hash (Err early) = early
@@ -205,6 +210,7 @@ IsCaused words before now status.NoMemory = ⊥
 -- history, throughout which the sealing holds.
 pub record RunsLegal (hash : Hash) (words : List (List ℕ)) (told : Told) (before now : Option (List ℕ)) : Type 0 where
   pub scene : Plan × List ℕ
+  pub not_early : early hash words told ≡ None
   pub opens : opened hash words told ≡ Ok scene
   pub text : List ℕ
   pub wrote : now ≡ append_known before text

@@ -78,10 +78,10 @@ IsLinked hash file_pages before e (event.Proc (Insert at pages first count)) = p
 IsLinked hash file_pages before e _ = Unit {0}
 
 -- each entry is linked, where these stood before the first
-abbrev pub Linked : Hash → ℕ → List Entry → List Entry → Type 0
-Linked hash file_pages before [] = Unit {0}
-Linked hash file_pages before (e ∷ es) =
-    IsLinked hash file_pages before e e.event × Linked hash file_pages (before ++ e ∷ []) es
+abbrev pub Links : Hash → ℕ → List Entry → List Entry → Type 0
+Links hash file_pages before [] = Unit {0}
+Links hash file_pages before (e ∷ es) =
+    IsLinked hash file_pages before e e.event × Links hash file_pages (before ++ e ∷ []) es
 
 -- The entries are the events that the call makes after those, one after the other, and the call is then
 -- complete.
@@ -107,5 +107,5 @@ Scripted hash file_pages number (call ∷ calls) es =
 pub record Legal (hash : Hash) (file_pages : ℕ) (opening : Machine) (calls : List Call) (history : List Entry) : Type 0 where
   pub stamps : Stamped 0 history
   pub replies : Answered hash opening history
-  pub links : Linked hash file_pages [] history
+  pub links : Links hash file_pages [] history
   pub script : Scripted hash file_pages 0 calls history

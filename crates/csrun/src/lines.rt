@@ -1,4 +1,4 @@
-//! The lines of a scene, and what each form of line says.
+//! The lines of a scene, and what the words of each form of line say, or `None` where they are not of the form.
 
 ghost use Rattle.std.specs.Prelude.{◌≡◌, ◌==◌, ◌+◌, ◌≤◌, option_map, IfOk, IfSome, length, vec_len};
 ghost use Rattle.std.specs.List.{slice_split};
@@ -27,7 +27,7 @@ pub fn parts(alloc: Global, text: &[u8], at: u8) -> Result<Vec<&[u8]>, AllocErro
     text.split(|b| *b == at).collect(alloc)
 }
 
-/// The parts, but for a last one in which nothing stands.
+/// The parts, without the last one where that is empty.
 pub fn without_empty_end<'a, 'b>(parts: &'a [&'b [u8]]) -> &'a [&'b [u8]]
     ensures lines { texts result.now ≡ without_empty_end (texts parts.now) }
     ensures few { length result.now ≤ length parts.now }

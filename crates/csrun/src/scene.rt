@@ -1,4 +1,4 @@
-//! The scene: one signed file, one enforced process, one script.
+//! The scene: one signed file, one enforced process, one script; and how its text is read.
 
 ghost use Rattle.std.specs.Prelude.{◌≡◌, ◌+◌, ◌-◌, ◌<◌, ◌≤◌, ◌^◌, length, drop, slice_get, ok_or, vec_len, IfOk};
 ghost use Rattle.csrun.specs.Lines.{texts, fixed_line, raw_line, admit_line, map_line, raw_of};
@@ -168,7 +168,14 @@ fn read_lines(alloc: Global, lines: &[&[u8]]) -> Result<Scene, SceneFail>
     })
 }
 
-/// What a scene's text says, or the first line that is missing or not of its form.
+/// What a scene's text says.
+///
+/// Its lines are, in this order, `scene 1`, `raw PATH OFF LEN`, `process enforce`, `admit CDHASH`, `script`,
+/// `spawn p0`, `map p0 0x10000 f0 0 N r-x private` with N from 1 to 16, and `attach f0 0`. Any number of lines
+/// follow, each `write f0 OFF BB` or `fault p0 ADDR x` with ADDR in the N mapped pages. A line ends by LF, the
+/// last one by LF or by the end of the text, and one space stands between two words. `Bad` tells the first
+/// line that is missing or not of its form; it is line 1 where the text has more than 4,096 bytes. Whether the
+/// file has what the lines speak of is not looked at.
 #[tactic(auto, unfolding(crate::specs::Scene::scene_of, crate::specs::Lines::lines_of))]
 pub fn read_scene(alloc: Global, text: &[u8]) -> Result<Scene, SceneFail>
     ensures exact { Reads result (scene_of text.now) }

@@ -1,4 +1,4 @@
-//! The forms of a scene's words.
+//! The forms of a scene's words: each function tells what a word says, or `None` where it is not of the form.
 
 ghost use Rattle.std.specs.Prelude.{◌≡◌, ◌≤◌, ◌^◌, option_copied, bytes_eq, IsAscii};
 ghost use Rattle.std.specs.List.{list_all};
@@ -59,7 +59,7 @@ fn text_of(word: &[u8]) -> &str
     str::from_utf8(word).unwrap()
 }
 
-/// The number of a numeral; `None` where it is not below 2^64.
+/// The number that a numeral in a base says; `None` where it is not below 2^64.
 fn value(numeral: &[u8], radix: u32) -> Option<u64>
     requires low { 2 ≤ radix }
     requires high { radix ≤ 16 }
@@ -104,7 +104,7 @@ pub fn address(word: &[u8]) -> Option<u64>
     }
 }
 
-/// The bytes that a word of two lower-case hex digits each says.
+/// The cdhash that a word of 40 lower-case hex digits says.
 #[tactic(auto, unfolding(crate::specs::Words::bytes_word))]
 pub fn cdhash(word: &[u8]) -> Option<[u8; 20]>
     ensures { result ≡ bytes_word 20 word.now }
