@@ -1,0 +1,3 @@
+pub mod PlaceFacts
+pub mod HalfFacts
+pub mod RuleFacts

@@ -1,0 +1,4 @@
+use Rattle.cs_trust.proofs.static_trust.StaticTrust.look.Given as goal
+
+abbrev pub ghosts-look_over : goal.ghosts-look_over
+ghosts-look_over a = record { name = a.blank.name; parts = a.blank.parts }
