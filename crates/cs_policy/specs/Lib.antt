@@ -1,0 +1,1 @@
+-- The types alone are cited, as `cs_policy.specs.declared`.

@@ -1,0 +1,131 @@
+use super::*;
+use TrustReply::*;
+use cs_policy::{Refusal, TrustReply};
+use cs_trust::{Module, StaticTrust, TrustFail, module};
+use std::alloc::Global;
+use std::sync::Arc;
+use std::test::Fail;
+
+const C: [u8; 20] = [0xc1; 20];
+
+const D: [u8; 20] = [0xd2; 20];
+
+const E: [u8; 20] = [0xe3; 20];
+
+/// The bytes of a trust cache of version 1 with these entries.
+fn text(alloc: Global, entries: &[[u8; 20]]) -> Result<Vec<u8>, NoMemory> {
+    let mut bytes = Vec::new(alloc);
+    bytes.extend_from_slice(&1_u32.to_le_bytes())?;
+    bytes.extend_from_slice(&[0; 16])?;
+    bytes.extend_from_slice(
+        &u32::try_from(entries.len())
+            .unwrap_or(u32::MAX)
+            .to_le_bytes(),
+    )?;
+    for entry in entries {
+        bytes.extend_from_slice(entry)?;
+        bytes.extend_from_slice(&[2, 0])?;
+    }
+    Ok(bytes)
+}
+
+/// A declared cache, as its bytes are read.
+fn declared(alloc: Global, bytes: &[u8]) -> Result<Result<Module, Refusal>, NoMemory> {
+    match module(alloc, bytes) {
+        Ok(read) => Ok(Ok(read)),
+        Err(TrustFail::Refused(refusal)) => Ok(Err(as_refusal(refusal))),
+        Err(TrustFail::NoMemory) => Err(NoMemory),
+    }
+}
+
+#[test]
+fn empty_cache(rt: HostRuntime) -> Result<(), Fail> {
+    let fixed = Arc::new(rt.alloc(), StaticTrust::new(Vec::new(rt.alloc())))?;
+    let caches = vec![in rt.alloc(); declared(rt.alloc(), &text(rt.alloc(), &[])?)?]?;
+    let mut list = Trusted::open(rt.alloc(), fixed, caches)?;
+    assert_eq!(rt; list.load(0), Loaded { module: 0 });
+    assert_eq!(rt; list.lookup(&C), Unlisted);
+    Ok(())
+}
+
+/// A trust cache was refused by this rule, with this argument.
+fn refused(number: u8, a: u64) -> TrustReply {
+    Refused(Refusal {
+        family: 6,
+        number,
+        a,
+        b: 0,
+    })
+}
+
+#[test]
+fn refused_caches(rt: HostRuntime) -> Result<(), Fail> {
+    let fixed = Arc::new(rt.alloc(), StaticTrust::new(Vec::new(rt.alloc())))?;
+    let mut cut = text(rt.alloc(), &[C])?;
+    let _ = cut.pop();
+    assert_eq!(rt; cut.len(), 45);
+    let caches = vec![in rt.alloc();
+        declared(rt.alloc(), &cut)?,
+        declared(rt.alloc(), &text(rt.alloc(), &[D, C])?)?,
+    ]?;
+    let mut list = Trusted::open(rt.alloc(), fixed, caches)?;
+    assert_eq!(rt; list.load(0), refused(3, 0));
+    assert_eq!(rt; list.load(1), refused(4, 1));
+    assert_eq!(rt; list.lookup(&C), Unlisted);
+    Ok(())
+}
+
+#[test]
+fn one_cache_many_times(rt: HostRuntime) -> Result<(), Fail> {
+    let fixed = Arc::new(rt.alloc(), StaticTrust::new(Vec::new(rt.alloc())))?;
+    let caches = vec![in rt.alloc(); declared(rt.alloc(), &text(rt.alloc(), &[C])?)?]?;
+    let mut list = Trusted::open(rt.alloc(), fixed, caches)?;
+    for module in 0..64 {
+        assert_eq!(rt; list.load(0), Loaded { module });
+    }
+    assert_eq!(rt; list.load(0), Full { limit: 64 });
+    assert_eq!(rt;
+        list.lookup(&C),
+        Listed {
+            module: 0,
+            place: 0
+        }
+    );
+    Ok(())
+}
+
+#[test]
+fn static_before_loaded(rt: HostRuntime) -> Result<(), Fail> {
+    let modules = vec![in rt.alloc(); Module::one(rt.alloc(), C)?]?;
+    let fixed = Arc::new(rt.alloc(), StaticTrust::new(modules))?;
+    let caches = vec![in rt.alloc();
+        declared(rt.alloc(), &text(rt.alloc(), &[C])?)?,
+        declared(rt.alloc(), &text(rt.alloc(), &[C, D, D])?)?,
+    ]?;
+    let mut list = Trusted::open(rt.alloc(), fixed, caches)?;
+    assert_eq!(rt; list.lookup(&D), Unlisted);
+    assert_eq!(rt; list.load(0), Loaded { module: 1 });
+    assert_eq!(rt; list.load(1), Loaded { module: 2 });
+    for (cdhash, reply) in [
+        (
+            C,
+            Listed {
+                module: 0,
+                place: 0,
+            },
+        ),
+        (
+            D,
+            Listed {
+                module: 2,
+                place: 1,
+            },
+        ),
+        (E, Unlisted),
+    ] {
+        assert_eq!(rt; list.lookup(&cdhash), reply);
+    }
+    assert_eq!(rt; list.fixed().look(&C), Some((0, 0)));
+    assert_eq!(rt; list.fixed().look(&D), None);
+    Ok(())
+}
