@@ -1,9 +1,9 @@
 //! The rules of a SuperBlob, tried in their order.
 
-ghost use Rattle.std.specs.Prelude.{◌≡◌, ◌+◌, ◌*◌, ◌^◌, ◌<◌, ◌≤◌, ◌==◌, All, IfOk, IfErr, OnOk, None, MatchResult, length, true, false};
+ghost use Rattle.std.specs.Prelude.{◌≡◌, ◌+◌, ◌^◌, ◌<◌, ◌≤◌, ◌==◌, All, IfOk, IfErr, OnOk, None, MatchResult, length, true, false};
 ghost use Rattle.std.specs.List.{list_any};
 ghost use Rattle.pg_bytes.specs.Fields.{be32_at};
-ghost use Rattle.cs_superblob.specs.Layout.{seats, seat_at, slot_type};
+ghost use Rattle.cs_superblob.specs.Layout.{seats, seat_at};
 ghost use Rattle.cs_superblob.specs.Layout as layout;
 ghost use Rattle.cs_superblob.specs.Rules.{Tries, Refuses, first, frame_rules, place_rules, repeat_rules, is_out, is_repeated, broken, IsFramed};
 ghost use Rattle.cs_superblob.specs.Index.{IsIndex, IsInside};

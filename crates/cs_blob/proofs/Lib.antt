@@ -1,0 +1,4 @@
+pub mod RuleFacts
+pub mod PartsFacts
+pub mod CandidateFacts
+pub mod GrammarFacts

@@ -1,0 +1,18 @@
+use Rattle.std.proofs.Common.{arith}
+use Rattle.std.proofs.lemmas.Result.{err_from_is_err_and}
+use Rattle.cs_blob.proofs.RuleFacts.{slots_next, slots_broken, slots_end}
+use Rattle.cs_blob.proofs.checks.specials.Goals as goal
+
+pub returns-in_err-special-clause-tries : goal.returns-in_err-special-clause-tries
+returns-in_err-special-clause-tries g c =
+    let exit = err_from_is_err_and c.from_residual.result c.from_residual.ensures.1 in
+    rw (exit.1, exit.2) (slots_broken _ c.loop-slot.slot _ c.loop-slot.invariant.kept (omega arith) (omega arith) c.in_err-special.ensures.tries)
+
+pub loop-slot-preserved : goal.loop-slot-preserved
+loop-slot-preserved g c = record {
+  kept = slots_next _ c.loop-slot.slot c.loop-slot.invariant.kept (omega arith) (omega arith) c.in_ok-special.ensures.tries;
+  counted = omega (arith, c.loop-slot.invariant.counted, c.in_ok-special.ensures.counted);
+}
+
+pub returns-clause-tries : goal.returns-clause-tries
+returns-clause-tries g c = slots_end _ c.loop-slot.slot c.loop-slot.invariant.kept (omega arith)

@@ -1,0 +1,6 @@
+pub mod Fails
+pub mod Parts
+pub mod Candidates
+pub mod Rules
+pub mod Signature
+pub mod Signed

@@ -1,0 +1,61 @@
+//! The rules of a signature, tried in their order.
+
+ghost use Rattle.std.specs.Prelude.{◌≤◌, IfOk, IfErr};
+ghost use Rattle.cs_blob.specs.Rules.{broken, Refuses};
+ghost use Rattle.cs_blob.specs.Signed.{IsSignature, IsBest};
+
+use crate::candidates::{Candidate, candidates_of, distinct_ranks, strongest};
+use crate::checks::{limited, no_cms, specials};
+use crate::parts::{part, parts_of};
+use crate::refusal::BlobFail;
+use crate::signature::Blob;
+use pg_bytes::Range;
+use pg_digest::Digester;
+use std::alloc::Global;
+
+/// The signature of the slice. The rules, of which the first that is broken gives the refusal: the bytes are a
+/// code directory or a SuperBlob; there is a blob of type 0; each code directory, of type 0 or 0x1000 to 0x1004,
+/// is one; no two have hash types of one rank; a CMS signature is empty; for each type from 1 to 11, a blob of
+/// it has a special slot in the best directory and matches it; that directory's limit is within the slice. The
+/// digester is called for those special slots and for the cdhash. On an error the bytes are dropped.
+pub fn blob<D: Digester>(
+    alloc: Global,
+    bytes: Vec<u8>,
+    slice: &Range,
+    d: &mut D,
+) -> Result<Blob, BlobFail>
+    ensures accepted { IfOk result (IsSignature D.hash bytes.items slice.now) }
+    ensures refused { IfErr result (Refuses (broken D.hash bytes.items slice.now)) }
+    ensures counted { D.calls d.old ≤ D.calls d.new }
+{
+    let best = best_of(alloc, &bytes, slice, d)?;
+    let cdhash = best.directory.cdhash(part(&bytes, &best.seat.range), d);
+    Ok(Blob {
+        bytes,
+        best: best.directory,
+        place: best.seat.range,
+        slice: *slice,
+        cdhash,
+    })
+}
+
+/// The best code directory of a signature of the slice.
+fn best_of<D: Digester>(
+    alloc: Global,
+    bytes: &[u8],
+    slice: &Range,
+    d: &mut D,
+) -> Result<Candidate, BlobFail>
+    ensures accepted { IfOk result (IsBest D.hash bytes.now slice.now) }
+    ensures refused { IfErr result (Refuses (broken D.hash bytes.now slice.now)) }
+    ensures counted { D.calls d.old ≤ D.calls d.new }
+{
+    let parts = parts_of(alloc, bytes)?;
+    let found = candidates_of(alloc, bytes, &parts.directories)?;
+    distinct_ranks(&found)?;
+    no_cms(&parts.entries)?;
+    let best = strongest(&found);
+    specials(bytes, &parts.entries, &best, d)?;
+    limited(&best, slice)?;
+    Ok(best)
+}

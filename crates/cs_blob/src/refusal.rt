@@ -1,0 +1,95 @@
+//! Why bytes are no signature of a slice.
+
+use cs_directory::DirRefusal;
+use cs_superblob::{SuperFail, SuperRefusal};
+use std::alloc::{AllocError, AllocFailed};
+use thiserror::Error;
+
+/// Which rule the bytes break. Where they break several, the refusal is that of the first in the order that
+/// `blob` gives.
+#[derive(Clone, Copy, Debug, PartialEq, Eq, Error)]
+pub enum BlobRefusal {
+    /// The bytes are neither a code directory nor a SuperBlob.
+    #[error(transparent)]
+    Super(SuperRefusal),
+    /// A code directory among the blobs is refused.
+    #[error(transparent)]
+    Dir(DirRefusal),
+    /// No blob has type 0.
+    #[error("no code directory")]
+    NoDirectory,
+    /// The code directories of types `a` and `b` have hash types of one rank. The one of type `b` is the first
+    /// that repeats a rank, and `a` is the type of the one before it.
+    #[error("the code directories {a:#x} and {b:#x} have the same rank")]
+    SameRank { a: u64, b: u64 },
+    /// The CMS signature is a blob of `len` bytes, and not an empty one of 8.
+    #[error("a CMS signature of {len} bytes")]
+    CmsPresent { len: u64 },
+    /// The digest of the blob of type `slot` is not that special slot of the best directory.
+    #[error("special slot {slot} does not match its blob")]
+    SpecialMismatch { slot: u64 },
+    /// There is a blob of type `slot`, and the best directory has not so many special slots.
+    #[error("there is no special slot {slot} for its blob")]
+    SpecialMissing { slot: u64 },
+    /// The best directory signs more bytes than the slice has.
+    #[error("the limit is past the end of the slice")]
+    LimitPastEnd,
+}
+
+/// Why there is no blob.
+#[derive(Clone, Copy, Debug, PartialEq, Eq, Error)]
+pub enum BlobFail {
+    /// The bytes are no signature of the slice.
+    #[error(transparent)]
+    Refused(BlobRefusal),
+    /// Memory ran out.
+    #[error("out of memory")]
+    NoMemory,
+}
+
+impl From<BlobRefusal> for BlobFail {
+    ghost use Rattle.std.specs.Prelude.{◌≡◌};
+    ghost use Rattle.cs_blob.specs.declared.refusal.BlobFail.TheVariants.{Refused};
+
+    ghost from_gives = { λ refusal fail. fail ≡ Refused refusal };
+
+    fn from(refusal: BlobRefusal) -> BlobFail {
+        BlobFail::Refused(refusal)
+    }
+}
+
+impl From<SuperFail> for BlobFail {
+    ghost use Rattle.std.specs.Prelude.{◌≡◌};
+    ghost use Rattle.cs_blob.specs.Fails.{from_index};
+
+    ghost from_gives = { λ fail own. own ≡ from_index fail };
+
+    fn from(fail: SuperFail) -> BlobFail {
+        match fail {
+            SuperFail::Refused(refusal) => BlobFail::Refused(BlobRefusal::Super(refusal)),
+            SuperFail::NoMemory => BlobFail::NoMemory,
+        }
+    }
+}
+
+impl From<AllocError> for BlobFail {
+    ghost use Rattle.std.specs.Prelude.{◌≡◌};
+    ghost use Rattle.cs_blob.specs.declared.refusal.BlobFail.TheVariants.{NoMemory};
+
+    ghost from_gives = { λ _ fail. fail ≡ NoMemory };
+
+    fn from(_error: AllocError) -> BlobFail {
+        BlobFail::NoMemory
+    }
+}
+
+impl<T: Drop> From<AllocFailed<T>> for BlobFail {
+    ghost use Rattle.std.specs.Prelude.{◌≡◌};
+    ghost use Rattle.cs_blob.specs.declared.refusal.BlobFail.TheVariants.{NoMemory};
+
+    ghost from_gives = { λ _ fail. fail ≡ NoMemory };
+
+    fn from(_failed: AllocFailed<T>) -> BlobFail {
+        BlobFail::NoMemory
+    }
+}
