@@ -4,3 +4,4 @@ pub mod Candidates
 pub mod Rules
 pub mod Signature
 pub mod Signed
+pub mod Refusals

@@ -1,7 +1,8 @@
 //! The rules on what stands beside the best code directory.
 
-ghost use Rattle.std.specs.Prelude.{◌≤◌, ◌<◌, All};
+ghost use Rattle.std.specs.Prelude.{◌≡◌, ◌≤◌, ◌<◌, All, IfErr, false};
 ghost use Rattle.cs_blob.specs.Parts.{IsWithin};
+ghost use Rattle.cs_blob.specs.Refusals.{is_before_digests};
 ghost use Rattle.cs_blob.specs.Rules.{cms_rule, special_rule, each_special, limit_rule, Tries};
 ghost use Rattle.cs_blob.specs.Signed.{IsCandidate};
 
@@ -41,6 +42,7 @@ pub fn specials<D: Digester>(
     requires within { All (λ seat. IsWithin bytes.now seat.range) entries.now }
     requires best { IsCandidate bytes.now best.now }
     ensures tries { Tries (each_special D.hash bytes.now entries.now best.now) result }
+    ensures late { IfErr result (λ refusal. is_before_digests refusal ≡ false) }
     ensures counted { D.calls d.old ≤ D.calls d.new }
 {
     for slot in 1..12 {
@@ -62,6 +64,7 @@ fn special<D: Digester>(
     requires best { IsCandidate bytes.now best.now }
     requires slot { 0 < slot }
     ensures tries { Tries (special_rule D.hash bytes.now entries.now best.now slot) result }
+    ensures late { IfErr result (λ refusal. is_before_digests refusal ≡ false) }
     ensures counted { D.calls d.old ≤ D.calls d.new }
 {
     let Some(seat) = entry(entries, slot) else {
@@ -82,7 +85,8 @@ fn special<D: Digester>(
 /// The rule on the limit: it is within the slice.
 #[tactic(auto, unfolding(crate::specs::Rules::limit_rule))]
 pub fn limited(best: &Candidate, slice: &Range) -> Result<(), BlobRefusal>
-    ensures { Tries (limit_rule best.now slice.now) result }
+    ensures tries { Tries (limit_rule best.now slice.now) result }
+    ensures late { IfErr result (λ refusal. is_before_digests refusal ≡ false) }
 {
     if best.directory.limit() > slice.len {
         return Err(BlobRefusal::LimitPastEnd);

@@ -1,6 +1,8 @@
 //! The rules of a signature, tried in their order.
 
-ghost use Rattle.std.specs.Prelude.{◌≤◌, IfOk, IfErr};
+ghost use Rattle.std.specs.Prelude.{◌≤◌, IfOk, IfErr, OnOk};
+ghost use Rattle.pg_bytes.specs.Counts.{Rose};
+ghost use Rattle.cs_blob.specs.Refusals.{IsUnread};
 ghost use Rattle.cs_blob.specs.Rules.{broken, Refuses};
 ghost use Rattle.cs_blob.specs.Signed.{IsSignature, IsBest};
 
@@ -17,7 +19,8 @@ use std::alloc::Global;
 /// code directory or a SuperBlob; there is a blob of type 0; each code directory, of type 0 or 0x1000 to 0x1004,
 /// is one; no two have hash types of one rank; a CMS signature is empty; for each type from 1 to 11, a blob of
 /// it has a special slot in the best directory and matches it; that directory's limit is within the slice. The
-/// digester is called for those special slots and for the cdhash. On an error the bytes are dropped.
+/// digester is called for those special slots and for the cdhash alone: where a rule before them is broken, or
+/// memory runs out, it is not called. On an error the bytes are dropped.
 pub fn blob<D: Digester>(
     alloc: Global,
     bytes: Vec<u8>,
@@ -26,6 +29,8 @@ pub fn blob<D: Digester>(
 ) -> Result<Blob, BlobFail>
     ensures accepted { IfOk result (IsSignature D.hash bytes.items slice.now) }
     ensures refused { IfErr result (Refuses (broken D.hash bytes.items slice.now)) }
+    ensures unread { IfErr result (IsUnread (D.calls d.old) (D.calls d.new)) }
+    ensures hashed { OnOk result (Rose (D.calls d.old) (D.calls d.new)) }
     ensures counted { D.calls d.old ≤ D.calls d.new }
 {
     let best = best_of(alloc, &bytes, slice, d)?;
@@ -48,6 +53,7 @@ fn best_of<D: Digester>(
 ) -> Result<Candidate, BlobFail>
     ensures accepted { IfOk result (IsBest D.hash bytes.now slice.now) }
     ensures refused { IfErr result (Refuses (broken D.hash bytes.now slice.now)) }
+    ensures unread { IfErr result (IsUnread (D.calls d.old) (D.calls d.new)) }
     ensures counted { D.calls d.old ≤ D.calls d.new }
 {
     let parts = parts_of(alloc, bytes)?;

@@ -36,6 +36,27 @@ pub enum BlobRefusal {
     LimitPastEnd,
 }
 
+impl BlobRefusal {
+    ghost use Rattle.std.specs.Prelude.{◌≡◌};
+    ghost use Rattle.cs_blob.specs.Refusals.{number_of};
+
+    /// The number by which the refusal is printed, 1 to 8 in the order of the variants.
+    pub fn number(&self) -> u8
+        ensures { result ≡ number_of self.now }
+    {
+        match self {
+            BlobRefusal::Super(_) => 1,
+            BlobRefusal::Dir(_) => 2,
+            BlobRefusal::NoDirectory => 3,
+            BlobRefusal::SameRank { .. } => 4,
+            BlobRefusal::CmsPresent { .. } => 5,
+            BlobRefusal::SpecialMismatch { .. } => 6,
+            BlobRefusal::SpecialMissing { .. } => 7,
+            BlobRefusal::LimitPastEnd => 8,
+        }
+    }
+}
+
 /// Why there is no blob.
 #[derive(Clone, Copy, Debug, PartialEq, Eq, Error)]
 pub enum BlobFail {

@@ -100,18 +100,19 @@ fn put(bytes: &mut [u8], at: usize, number: u32) {
     }
 }
 
-/// The cdhash of the signature of a slice of so many bytes.
-fn cdhash(alloc: Global, bytes: &[u8], len: u64) -> Result<[u8; 20], BlobFail> {
-    let slice = Range { at: 4096, len };
+/// The cdhash of the signature of a slice that begins at so many bytes and has so many.
+fn cdhash(alloc: Global, bytes: &[u8], at: u64, len: u64) -> Result<[u8; 20], BlobFail> {
+    let slice = Range { at, len };
     let held = blob(alloc, bytes.to_vec(alloc)?, &slice, &mut ShaDigester::new())?;
     Ok(*held.cdhash())
 }
 
-/// Why the signature of a slice of 12,288 bytes is refused.
-fn refusal(alloc: Global, bytes: &[u8]) -> Option<BlobRefusal> {
-    match cdhash(alloc, bytes, 12288) {
-        Err(BlobFail::Refused(refusal)) => Some(refusal),
-        _ => None,
+/// Why the signature of a slice of 12,288 bytes is refused, or none where it is accepted.
+fn refusal(alloc: Global, bytes: &[u8]) -> Result<Option<BlobRefusal>, BlobFail> {
+    match cdhash(alloc, bytes, 4096, 12288) {
+        Ok(_) => Ok(None),
+        Err(BlobFail::Refused(refusal)) => Ok(Some(refusal)),
+        Err(BlobFail::NoMemory) => Err(BlobFail::NoMemory),
     }
 }
 
@@ -143,16 +144,16 @@ fn best_of_two(rt: HostRuntime) -> Result<(), Fail> {
     let mut swapped = PAIR;
     put(&mut swapped, 16, 178);
     put(&mut swapped, 24, 28);
-    assert_eq!(rt; cdhash(rt.alloc(), &swapped, 12288)?, BARE_CDHASH);
+    assert_eq!(rt; cdhash(rt.alloc(), &swapped, 4096, 12288)?, BARE_CDHASH);
     // The better one under a type that is no directory's.
     put(&mut swapped, 12, 0x1005);
     put(&mut swapped, 20, 0);
-    assert_eq!(rt; cdhash(rt.alloc(), &swapped, 12288)?, FIRST_CDHASH);
+    assert_eq!(rt; cdhash(rt.alloc(), &swapped, 4096, 12288)?, FIRST_CDHASH);
     Ok(())
 }
 
 #[test]
-fn pairs(rt: HostRuntime) {
+fn pairs(rt: HostRuntime) -> Result<(), Fail> {
     for (at, number, expected) in [
         // Both types at one directory.
         (16, 178, Some(SameRank { a: 0, b: 0x1000 })),
@@ -171,22 +172,38 @@ fn pairs(rt: HostRuntime) {
     ] {
         let mut bytes = PAIR;
         put(&mut bytes, at, number);
-        assert_eq!(rt; refusal(rt.alloc(), &bytes), expected, "{number} at {at}");
+        assert_eq!(rt; refusal(rt.alloc(), &bytes)?, expected, "{number} at {at}");
     }
+    Ok(())
 }
 
+/// Two index entries of type 0 that both place the one valid directory.
 #[test]
-fn signed(rt: HostRuntime) -> Result<(), Fail> {
-    assert_eq!(rt; cdhash(rt.alloc(), &SIGNED, 12288)?, SIGNED_CDHASH);
-    // A type that no special slot has: slot 2 is then not looked at.
-    let mut other = SIGNED;
-    put(&mut other, 20, 12);
-    assert_eq!(rt; cdhash(rt.alloc(), &other, 12288)?, SIGNED_CDHASH);
+fn one_directory_twice(rt: HostRuntime) -> Result<(), Fail> {
+    let index = b"\xfa\xde\x0c\xc0\0\0\0\xd6\0\0\0\x02\0\0\0\0\0\0\0\x1c\0\0\0\0\0\0\0\x1c";
+    let mut bytes = [0; 214];
+    bytes[..28].copy_from_slice(index);
+    bytes[28..].copy_from_slice(&BARE);
+    let twice = Super(SuperRefusal::Twice { slot: 0 });
+    assert_eq!(rt; refusal(rt.alloc(), &bytes)?, Some(twice));
+    // The second entry under a type that is no directory's.
+    put(&mut bytes, 20, 0x1005);
+    assert_eq!(rt; cdhash(rt.alloc(), &bytes, 4096, 12288)?, BARE_CDHASH);
     Ok(())
 }
 
 #[test]
-fn numbers(rt: HostRuntime) {
+fn signed(rt: HostRuntime) -> Result<(), Fail> {
+    assert_eq!(rt; cdhash(rt.alloc(), &SIGNED, 4096, 12288)?, SIGNED_CDHASH);
+    // A type that no special slot has: slot 2 is then not looked at.
+    let mut other = SIGNED;
+    put(&mut other, 20, 12);
+    assert_eq!(rt; cdhash(rt.alloc(), &other, 4096, 12288)?, SIGNED_CDHASH);
+    Ok(())
+}
+
+#[test]
+fn numbers(rt: HostRuntime) -> Result<(), Fail> {
     for (at, number, expected) in [
         // The last bytes of special slot 2, which has those of the digest of the requirements.
         (154, 0x1743_f987, Some(SpecialMismatch { slot: 2 })),
@@ -215,31 +232,39 @@ fn numbers(rt: HostRuntime) {
     ] {
         let mut bytes = SIGNED;
         put(&mut bytes, at, number);
-        assert_eq!(rt; refusal(rt.alloc(), &bytes), expected, "{number} at {at}");
+        assert_eq!(rt; refusal(rt.alloc(), &bytes)?, expected, "{number} at {at}");
     }
+    Ok(())
 }
 
 #[test]
-fn longer_cms(rt: HostRuntime) {
+fn longer_cms(rt: HostRuntime) -> Result<(), Fail> {
     let mut bytes = SIGNED;
     put(&mut bytes, 4, 307);
     put(&mut bytes, 302, 9);
-    assert_eq!(rt; refusal(rt.alloc(), &bytes), Some(CmsPresent { len: 9 }));
+    assert_eq!(rt; refusal(rt.alloc(), &bytes)?, Some(CmsPresent { len: 9 }));
+    Ok(())
 }
 
 #[test]
-fn limits(rt: HostRuntime) {
+fn limits(rt: HostRuntime) -> Result<(), Fail> {
     let refused = Some(BlobFail::Refused(LimitPastEnd));
-    assert_eq!(rt; cdhash(rt.alloc(), &BARE, 12287).err(), refused);
-    assert_eq!(rt; cdhash(rt.alloc(), &SIGNED, 12287).err(), refused);
-    assert_eq!(rt; cdhash(rt.alloc(), &SIGNED, u64::MAX).err(), None);
+    assert_eq!(rt; cdhash(rt.alloc(), &BARE, 0, 12287).err(), refused);
+    assert_eq!(rt; cdhash(rt.alloc(), &BARE, 0, 12288)?, BARE_CDHASH);
+    assert_eq!(rt; cdhash(rt.alloc(), &BARE, 4096, 12287).err(), refused);
+    assert_eq!(rt; cdhash(rt.alloc(), &SIGNED, 4096, 12287).err(), refused);
+    assert_eq!(rt; cdhash(rt.alloc(), &SIGNED, 4096, u64::MAX).err(), None);
     let mut bytes = BARE;
     put(&mut bytes, 44, 1);
-    assert_eq!(rt; refusal(rt.alloc(), &bytes), Some(Dir(DirRefusal::Scatter)));
+    assert_eq!(rt;
+        refusal(rt.alloc(), &bytes)?,
+        Some(Dir(DirRefusal::Scatter))
+    );
+    Ok(())
 }
 
 #[test]
-fn whole_texts(rt: HostRuntime) {
+fn whole_texts(rt: HostRuntime) -> Result<(), Fail> {
     for (bytes, expected) in [
         (
             b"\xfa\xde\x0c\xc0\0\0\0\x0c\0\0\0\0".as_slice(),
@@ -256,12 +281,13 @@ fn whole_texts(rt: HostRuntime) {
         (b"\xfa\xde\x0c", Super(SuperRefusal::Short)),
         (b"\xfa\xde\x0c\x02", Dir(DirRefusal::Short)),
     ] {
-        assert_eq!(rt; refusal(rt.alloc(), bytes), Some(expected), "{bytes:?}");
+        assert_eq!(rt; refusal(rt.alloc(), bytes)?, Some(expected), "{bytes:?}");
     }
+    Ok(())
 }
 
 #[test]
-fn cut(rt: HostRuntime) {
+fn cut(rt: HostRuntime) -> Result<(), Fail> {
     for length in 0..306 {
         let expected = if length < 12 {
             SuperRefusal::Short
@@ -269,15 +295,16 @@ fn cut(rt: HostRuntime) {
             SuperRefusal::LengthBad
         };
         assert_eq!(rt;
-            refusal(rt.alloc(), &SIGNED[..length]),
+            refusal(rt.alloc(), &SIGNED[..length])?,
             Some(Super(expected)),
             "{length} bytes"
         );
     }
     for length in 0..186 {
         assert!(rt;
-            refusal(rt.alloc(), &BARE[..length]).is_some(),
+            refusal(rt.alloc(), &BARE[..length])?.is_some(),
             "{length} bytes"
         );
     }
+    Ok(())
 }

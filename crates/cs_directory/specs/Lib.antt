@@ -2,3 +2,4 @@ pub mod Layout
 pub mod Fields
 pub mod Rules
 pub mod Directory
+pub mod Refusals

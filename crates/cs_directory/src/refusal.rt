@@ -39,3 +39,27 @@ pub enum DirRefusal {
     #[error("bad team identifier")]
     TeamBad,
 }
+
+impl DirRefusal {
+    ghost use Rattle.std.specs.Prelude.{◌≡◌};
+    ghost use Rattle.cs_directory.specs.Refusals.{number_of};
+
+    /// The number by which the refusal is printed, 1 to 11 in the order of the variants.
+    pub fn number(&self) -> u8
+        ensures { result ≡ number_of self.now }
+    {
+        match self {
+            DirRefusal::Short => 1,
+            DirRefusal::BadMagic => 2,
+            DirRefusal::LengthBad => 3,
+            DirRefusal::Version { .. } => 4,
+            DirRefusal::PageSize { .. } => 5,
+            DirRefusal::HashType { .. } => 6,
+            DirRefusal::HashSize { .. } => 7,
+            DirRefusal::SlotsOut => 8,
+            DirRefusal::Scatter => 9,
+            DirRefusal::IdentBad => 10,
+            DirRefusal::TeamBad => 11,
+        }
+    }
+}

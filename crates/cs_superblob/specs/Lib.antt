@@ -1,3 +1,4 @@
 pub mod Layout
 pub mod Rules
 pub mod Index
+pub mod Refusals

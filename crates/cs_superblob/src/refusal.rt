@@ -27,6 +27,25 @@ pub enum SuperRefusal {
     Twice { slot: u64 },
 }
 
+impl SuperRefusal {
+    ghost use Rattle.std.specs.Prelude.{◌≡◌};
+    ghost use Rattle.cs_superblob.specs.Refusals.{number_of};
+
+    /// The number by which the refusal is printed, 1 to 6 in the order of the variants.
+    pub fn number(&self) -> u8
+        ensures { result ≡ number_of self.now }
+    {
+        match self {
+            SuperRefusal::Short => 1,
+            SuperRefusal::BadMagic { .. } => 2,
+            SuperRefusal::LengthBad => 3,
+            SuperRefusal::CountBad => 4,
+            SuperRefusal::EntryOut { .. } => 5,
+            SuperRefusal::Twice { .. } => 6,
+        }
+    }
+}
+
 /// Why there is no index.
 #[derive(Clone, Copy, Debug, PartialEq, Eq, Error)]
 pub enum SuperFail {

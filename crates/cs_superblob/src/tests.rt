@@ -32,11 +32,12 @@ fn put(bytes: &mut [u8], at: usize, number: u32) {
     }
 }
 
-/// Why the bytes are refused.
-fn refusal(alloc: Global, bytes: &[u8]) -> Option<SuperRefusal> {
+/// Why the bytes are refused, or none where they are accepted.
+fn refusal(alloc: Global, bytes: &[u8]) -> Result<Option<SuperRefusal>, SuperFail> {
     match index(alloc, bytes) {
-        Err(SuperFail::Refused(refusal)) => Some(refusal),
-        _ => None,
+        Ok(_) => Ok(None),
+        Err(SuperFail::Refused(refusal)) => Ok(Some(refusal)),
+        Err(SuperFail::NoMemory) => Err(SuperFail::NoMemory),
     }
 }
 
@@ -58,19 +59,20 @@ fn empty(rt: HostRuntime) -> Result<(), Fail> {
 }
 
 #[test]
-fn cut(rt: HostRuntime) {
+fn cut(rt: HostRuntime) -> Result<(), Fail> {
     for length in 0..56 {
         let expected = if length < 12 { Short } else { LengthBad };
         assert_eq!(rt;
-            refusal(rt.alloc(), &SAMPLE[..length]),
+            refusal(rt.alloc(), &SAMPLE[..length])?,
             Some(expected),
             "{length} bytes"
         );
     }
+    Ok(())
 }
 
 #[test]
-fn whole_texts(rt: HostRuntime) {
+fn whole_texts(rt: HostRuntime) -> Result<(), Fail> {
     for (bytes, expected) in [
         (
             b"\xfa\xde\x0c\xc0\0\0\0\x0c\xff\xff\xff\xff".as_slice(),
@@ -87,12 +89,13 @@ fn whole_texts(rt: HostRuntime) {
         (b"\xfa\xde\x0c\xc0\0\0\0\x0b\0\0\0\0", LengthBad),
         (b"\xfa\xde\x0c\xc0\0\0\0\x0c\0\0\0\x01", CountBad),
     ] {
-        assert_eq!(rt; refusal(rt.alloc(), bytes), Some(expected), "{bytes:?}");
+        assert_eq!(rt; refusal(rt.alloc(), bytes)?, Some(expected), "{bytes:?}");
     }
+    Ok(())
 }
 
 #[test]
-fn numbers(rt: HostRuntime) {
+fn numbers(rt: HostRuntime) -> Result<(), Fail> {
     let most = u32::MAX;
     let first = Some(EntryOut { index: 0 });
     let second = Some(EntryOut { index: 1 });
@@ -127,16 +130,18 @@ fn numbers(rt: HostRuntime) {
     ] {
         let mut bytes = SAMPLE;
         put(&mut bytes, at, number);
-        assert_eq!(rt; refusal(rt.alloc(), &bytes), expected, "{number} at {at}");
+        assert_eq!(rt; refusal(rt.alloc(), &bytes)?, expected, "{number} at {at}");
     }
+    Ok(())
 }
 
 #[test]
-fn places_before_types(rt: HostRuntime) {
+fn places_before_types(rt: HostRuntime) -> Result<(), Fail> {
     let mut bytes = SAMPLE;
     put(&mut bytes, 20, 0);
     put(&mut bytes, 24, 56);
-    assert_eq!(rt; refusal(rt.alloc(), &bytes), Some(EntryOut { index: 1 }));
+    assert_eq!(rt; refusal(rt.alloc(), &bytes)?, Some(EntryOut { index: 1 }));
+    Ok(())
 }
 
 /// Entries of the types 0, 1, 2 and so on, all at one blob of eight bytes right behind the table.
@@ -163,8 +168,8 @@ fn most_entries(rt: HostRuntime) -> Result<(), Fail> {
     assert_eq!(rt; found.len(), 1024);
     assert_eq!(rt; found.last(), Some(&seat(1023, 8204, 8)));
     put(&mut bytes, 8196, 1022);
-    assert_eq!(rt; refusal(rt.alloc(), &bytes), Some(Twice { slot: 1022 }));
+    assert_eq!(rt; refusal(rt.alloc(), &bytes)?, Some(Twice { slot: 1022 }));
     let more = many(rt.alloc(), 1025)?;
-    assert_eq!(rt; refusal(rt.alloc(), &more), Some(CountBad));
+    assert_eq!(rt; refusal(rt.alloc(), &more)?, Some(CountBad));
     Ok(())
 }

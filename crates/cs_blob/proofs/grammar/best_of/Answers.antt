@@ -61,7 +61,7 @@ returns-in_err-limited-clause-refused g c =
     let cms = rw (c.deref-3.ensures.value ∙ c.in_ok-parts.ensures.placed.entries) at c.in_ok-no_cms.ensures in
     let best = best-from _ _ _ (c.deref-4.ensures.value ∙ found) c.strongest-best.ensures in
     let specials = rw (c.deref-5.ensures.value ∙ c.in_ok-parts.ensures.placed.entries, best) at c.in_ok-specials.ensures.tries in
-    rw (exit.1, exit.2) (broken_by_limit _ _ _ _ kept ranks cms specials (rw best at c.in_err-limited.ensures))
+    rw (exit.1, exit.2) (broken_by_limit _ _ _ _ kept ranks cms specials (rw best at c.in_err-limited.ensures.tries))
 
 pub returns-clause-accepted : goal.returns-clause-accepted
 returns-clause-accepted g c =
@@ -73,7 +73,7 @@ returns-clause-accepted g c =
     let best = best-from _ _ _ (c.deref-4.ensures.value ∙ found) c.strongest-best.ensures in
     let specials = rw (c.deref-5.ensures.value ∙ c.in_ok-parts.ensures.placed.entries, best) at c.in_ok-specials.ensures.tries in
     record {
-      unbroken = broken_by_limit _ _ _ _ kept ranks cms specials (rw best at c.in_ok-limited.ensures);
+      unbroken = broken_by_limit _ _ _ _ kept ranks cms specials (rw best at c.in_ok-limited.ensures.tries);
       value = best;
       found = All-strongest (IsCandidate c.args.bytes.now) _ _ (rw c.deref-4.ensures.value c.in_ok-found.ensures.sound) c.strongest-best.ensures;
       greatest = rw (c.deref-4.ensures.value ∙ found) at (strongest-greatest _ _ c.strongest-best.ensures);
