@@ -7,5 +7,8 @@
 mod refusal;
 mod trust;
 
-pub use refusal::Refusal;
+pub use refusal::{
+    DIRECTORY_FAMILY, FAT_FAMILY, IMAGE_FAMILY, Refusal, SIGNATURE_FAMILY, SUPERBLOB_FAMILY,
+    TRUST_FAMILY,
+};
 pub use trust::{TrustEvent, TrustReply};

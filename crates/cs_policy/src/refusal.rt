@@ -1,11 +1,31 @@
 //! Why bytes were refused.
 
+/// The family of the refusals of fat files.
+pub const FAT_FAMILY: u8 = 1;
+
+/// The family of the refusals of Mach-O images.
+pub const IMAGE_FAMILY: u8 = 2;
+
+/// The family of the refusals of SuperBlobs.
+pub const SUPERBLOB_FAMILY: u8 = 3;
+
+/// The family of the refusals of code directories.
+pub const DIRECTORY_FAMILY: u8 = 4;
+
+/// The family of the refusals of signatures.
+pub const SIGNATURE_FAMILY: u8 = 5;
+
+/// The family of the refusals of trust caches.
+pub const TRUST_FAMILY: u8 = 6;
+
 /// The first rule of its format that a text breaks, in numbers. All refusals fit in one.
 #[derive(Clone, Copy, Debug, PartialEq, Eq)]
 pub struct Refusal {
-    /// The format: 1 fat file, 2 Mach-O image, 3 SuperBlob, 4 code directory, 5 signature, 6 trust cache.
+    /// The format: one of `FAT_FAMILY`, `IMAGE_FAMILY`, `SUPERBLOB_FAMILY`, `DIRECTORY_FAMILY`,
+    /// `SIGNATURE_FAMILY` and `TRUST_FAMILY`, which are 1 to 6.
     pub family: u8,
-    /// Which rule of the format it is, counted from 1.
+    /// The number of the refusal in its family, counted from 1. The numbers do not follow the order in which
+    /// the rules are tried.
     pub number: u8,
     /// The refusal's first argument, or 0 where it has none.
     pub a: u64,

@@ -14,6 +14,8 @@ use pg_bytes::le32;
 use std::alloc::Global;
 
 /// The trust cache that the bytes are, all of them. A refusal is that of the first rule that is broken.
+/// `NoMemory` comes where there is no memory for the cdhashes, which is taken once the rules on the header and
+/// the length are kept and before the order of the entries is looked at.
 pub fn module(alloc: Global, bytes: &[u8]) -> Result<Module, TrustFail>
     ensures accepted { IfOk result (IsModule bytes.now) }
     ensures refused { IfErr result (IsCause bytes.now) }

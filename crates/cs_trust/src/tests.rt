@@ -8,15 +8,23 @@ use std::marker::Brand;
 use std::sync::ledger::{Blank, Ledger};
 use std::test::Fail;
 
+/// The cdhash of a code directory of 192 bytes, which a linker signed ad hoc.
 const C: [u8; 20] = [
-    0x28, 0x75, 0xb1, 0xed, 0x5d, 0xe5, 0xcd, 0xa3, 0x42, 0x1f, 0xc7, 0xfe, 0x48, 0x69, 0xab, 0x72,
-    0x11, 0x35, 0x10, 0x07,
+    0xbb, 0x25, 0x76, 0xd3, 0xb1, 0x41, 0x0f, 0x65, 0x8d, 0x4d, 0x91, 0x74, 0xe4, 0x04, 0x56, 0xb4,
+    0x0d, 0x79, 0xc5, 0x96,
+];
+
+/// A trust cache with this one entry, of hash type 2 and without flags.
+const ONE_ENTRY_CACHE: [u8; 46] = [
+    0x01, 0x00, 0x00, 0x00, 0x00, 0x00, 0x00, 0x00, 0x00, 0x00, 0x00, 0x00, 0x00, 0x00, 0x00, 0x00,
+    0x00, 0x00, 0x00, 0x00, 0x01, 0x00, 0x00, 0x00, 0xbb, 0x25, 0x76, 0xd3, 0xb1, 0x41, 0x0f, 0x65,
+    0x8d, 0x4d, 0x91, 0x74, 0xe4, 0x04, 0x56, 0xb4, 0x0d, 0x79, 0xc5, 0x96, 0x02, 0x00,
 ];
 
 /// Its last byte alone differs from that of `C`.
 const D: [u8; 20] = [
-    0x28, 0x75, 0xb1, 0xed, 0x5d, 0xe5, 0xcd, 0xa3, 0x42, 0x1f, 0xc7, 0xfe, 0x48, 0x69, 0xab, 0x72,
-    0x11, 0x35, 0x10, 0x08,
+    0xbb, 0x25, 0x76, 0xd3, 0xb1, 0x41, 0x0f, 0x65, 0x8d, 0x4d, 0x91, 0x74, 0xe4, 0x04, 0x56, 0xb4,
+    0x0d, 0x79, 0xc5, 0x97,
 ];
 
 /// The text of a trust cache with these numbers in its header and these entries.
@@ -43,10 +51,21 @@ fn cache(alloc: Global, count: u32, entries: &[[u8; 20]]) -> Result<Module, Fail
     Ok(module(alloc, &text(alloc, 1, count, entries)?)?)
 }
 
-fn refusal(alloc: Global, bytes: &[u8]) -> Option<TrustRefusal> {
+/// The refusal of bytes, or `None` where they are a trust cache.
+fn refusal(alloc: Global, bytes: &[u8]) -> Result<Option<TrustRefusal>, NoMemory> {
     match module(alloc, bytes) {
-        Err(TrustFail::Refused(refusal)) => Some(refusal),
-        _ => None,
+        Ok(_) => Ok(None),
+        Err(TrustFail::Refused(refusal)) => Ok(Some(refusal)),
+        Err(TrustFail::NoMemory) => Err(NoMemory),
+    }
+}
+
+/// The place of `C` in the trust cache that the bytes are, or their refusal.
+fn place_in(alloc: Global, bytes: &[u8]) -> Result<Result<Option<u64>, TrustRefusal>, NoMemory> {
+    match module(alloc, bytes) {
+        Ok(read) => Ok(Ok(read.look(&C))),
+        Err(TrustFail::Refused(refusal)) => Ok(Err(refusal)),
+        Err(TrustFail::NoMemory) => Err(NoMemory),
     }
 }
 
@@ -79,12 +98,12 @@ fn cut(rt: HostRuntime) -> Result<(), Fail> {
     for length in 0..46 {
         let expected = if length < 24 { Short } else { LengthBad };
         assert_eq!(rt;
-            refusal(rt.alloc(), &bytes[..length]),
+            refusal(rt.alloc(), &bytes[..length])?,
             Some(expected),
             "{length} bytes"
         );
     }
-    assert_eq!(rt; refusal(rt.alloc(), &bytes), None);
+    assert_eq!(rt; refusal(rt.alloc(), &bytes)?, None);
     Ok(())
 }
 
@@ -104,8 +123,57 @@ fn numbers(rt: HostRuntime) -> Result<(), Fail> {
         (1, u32::MAX, Some(TooMany)),
     ] {
         let bytes = text(rt.alloc(), version, count, &[C, D])?;
-        assert_eq!(rt; refusal(rt.alloc(), &bytes), expected, "{version}, {count}");
+        assert_eq!(rt;
+            refusal(rt.alloc(), &bytes)?,
+            expected,
+            "{version}, {count}"
+        );
     }
+    Ok(())
+}
+
+/// The bytes of a file with the one entry `C`, each byte of its UUID being `uuid`.
+fn one_entry_text(
+    alloc: Global,
+    version: u32,
+    uuid: u8,
+    count: u32,
+    hash_type: u8,
+    flags: u8,
+) -> Result<Vec<u8>, NoMemory> {
+    let mut bytes = Vec::new(alloc);
+    bytes.extend_from_slice(&version.to_le_bytes())?;
+    bytes.extend_from_slice(&[uuid; 16])?;
+    bytes.extend_from_slice(&count.to_le_bytes())?;
+    bytes.extend_from_slice(&C)?;
+    bytes.extend_from_slice(&[hash_type, flags])?;
+    Ok(bytes)
+}
+
+#[test]
+fn fields_at_their_bounds(rt: HostRuntime) -> Result<(), Fail> {
+    let sample = one_entry_text(rt.alloc(), 1, 0, 1, 2, 0)?;
+    assert_eq!(rt; sample.as_slice(), ONE_ENTRY_CACHE.as_slice());
+    for (version, uuid, count, hash_type, flags, expected) in [
+        (1, 0x00, 1, 2, 0, Ok(Some(0))),
+        (1, 0xff, 1, 2, 0, Ok(Some(0))),
+        (1, 0x00, 1, 0, 0, Ok(Some(0))),
+        (1, 0x00, 1, 255, 0, Ok(Some(0))),
+        (1, 0x00, 1, 2, 255, Ok(Some(0))),
+        (1, 0xff, 1, 255, 255, Ok(Some(0))),
+        (0, 0x00, 1, 2, 0, Err(Version { v: 0 })),
+        (2, 0x00, 1, 2, 0, Err(Version { v: 2 })),
+        (u32::MAX, 0x00, 1, 2, 0, Err(Version { v: 0xffff_ffff })),
+        (1, 0x00, 0, 2, 0, Err(LengthBad)),
+        (1, 0x00, u32::MAX, 2, 0, Err(TooMany)),
+    ] {
+        let bytes = one_entry_text(rt.alloc(), version, uuid, count, hash_type, flags)?;
+        assert_eq!(rt; place_in(rt.alloc(), &bytes)?, expected);
+    }
+    assert_eq!(rt;
+        place_in(rt.alloc(), &text(rt.alloc(), 1, 0, &[])?)?,
+        Ok(None)
+    );
     Ok(())
 }
 
@@ -119,10 +187,10 @@ fn order(rt: HostRuntime) -> Result<(), Fail> {
         ([[0xff; 20], D, C], Some(NotSorted { place: 1 })),
     ] {
         let bytes = text(rt.alloc(), 1, 3, &entries)?;
-        assert_eq!(rt; refusal(rt.alloc(), &bytes), expected);
+        assert_eq!(rt; refusal(rt.alloc(), &bytes)?, expected);
     }
     let bytes = text(rt.alloc(), 1, 2, &[D, C])?;
-    assert_eq!(rt; refusal(rt.alloc(), &bytes), Some(NotSorted { place: 1 }));
+    assert_eq!(rt; refusal(rt.alloc(), &bytes)?, Some(NotSorted { place: 1 }));
     Ok(())
 }
 
@@ -199,7 +267,7 @@ fn most_entries(rt: HostRuntime) -> Result<(), Fail> {
     );
     entries.push([0xff; 20])?;
     let bytes = text(rt.alloc(), 1, 65_537, &entries)?;
-    assert_eq!(rt; refusal(rt.alloc(), &bytes), Some(TooMany));
+    assert_eq!(rt; refusal(rt.alloc(), &bytes)?, Some(TooMany));
     Ok(())
 }
 

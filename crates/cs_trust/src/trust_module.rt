@@ -52,7 +52,7 @@ impl Module {
         Module { entries }
     }
 
-    /// The module that lists one cdhash.
+    /// The module that lists one cdhash. `NoMemory` comes where there is no memory for its one entry.
     pub fn one(alloc: Global, cdhash: [u8; 20]) -> Result<Module, NoMemory>
         ensures { IfOk result (λ made. made ≡ cdhash ∷ []) }
     {

@@ -3,7 +3,7 @@
 ghost use Rattle.std.specs.Prelude.{◌≡◌};
 ghost use Rattle.pg_trusted.specs.Refused.{refusal_of};
 
-use cs_policy::Refusal;
+use cs_policy::{Refusal, TRUST_FAMILY};
 use cs_trust::TrustRefusal;
 
 /// The refusal in numbers.
@@ -11,7 +11,7 @@ pub fn as_refusal(refusal: TrustRefusal) -> Refusal
     ensures { result ≡ refusal_of refusal }
 {
     Refusal {
-        family: 6,
+        family: TRUST_FAMILY,
         number: refusal.number(),
         a: refusal.argument(),
         b: 0,

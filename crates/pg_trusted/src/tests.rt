@@ -1,12 +1,23 @@
 use super::*;
 use TrustReply::*;
-use cs_policy::{Refusal, TrustReply};
+use cs_policy::{Refusal, TRUST_FAMILY, TrustReply};
 use cs_trust::{Module, StaticTrust, TrustFail, module};
 use std::alloc::Global;
 use std::sync::Arc;
 use std::test::Fail;
 
-const C: [u8; 20] = [0xc1; 20];
+/// The cdhash of a code directory of 192 bytes, which a linker signed ad hoc.
+const C: [u8; 20] = [
+    0xbb, 0x25, 0x76, 0xd3, 0xb1, 0x41, 0x0f, 0x65, 0x8d, 0x4d, 0x91, 0x74, 0xe4, 0x04, 0x56, 0xb4,
+    0x0d, 0x79, 0xc5, 0x96,
+];
+
+/// A trust cache with this one entry, of hash type 2 and without flags.
+const ONE_ENTRY_CACHE: [u8; 46] = [
+    0x01, 0x00, 0x00, 0x00, 0x00, 0x00, 0x00, 0x00, 0x00, 0x00, 0x00, 0x00, 0x00, 0x00, 0x00, 0x00,
+    0x00, 0x00, 0x00, 0x00, 0x01, 0x00, 0x00, 0x00, 0xbb, 0x25, 0x76, 0xd3, 0xb1, 0x41, 0x0f, 0x65,
+    0x8d, 0x4d, 0x91, 0x74, 0xe4, 0x04, 0x56, 0xb4, 0x0d, 0x79, 0xc5, 0x96, 0x02, 0x00,
+];
 
 const D: [u8; 20] = [0xd2; 20];
 
@@ -41,7 +52,9 @@ fn declared(alloc: Global, bytes: &[u8]) -> Result<Result<Module, Refusal>, NoMe
 #[test]
 fn empty_cache(rt: HostRuntime) -> Result<(), Fail> {
     let fixed = Arc::new(rt.alloc(), StaticTrust::new(Vec::new(rt.alloc())))?;
-    let caches = vec![in rt.alloc(); declared(rt.alloc(), &text(rt.alloc(), &[])?)?]?;
+    let bytes = text(rt.alloc(), &[])?;
+    assert_eq!(rt; bytes.len(), 24);
+    let caches = vec![in rt.alloc(); declared(rt.alloc(), &bytes)?]?;
     let mut list = Trusted::open(rt.alloc(), fixed, caches)?;
     assert_eq!(rt; list.load(0), Loaded { module: 0 });
     assert_eq!(rt; list.lookup(&C), Unlisted);
@@ -51,7 +64,7 @@ fn empty_cache(rt: HostRuntime) -> Result<(), Fail> {
 /// A trust cache was refused by this rule, with this argument.
 fn refused(number: u8, a: u64) -> TrustReply {
     Refused(Refusal {
-        family: 6,
+        family: TRUST_FAMILY,
         number,
         a,
         b: 0,
@@ -61,11 +74,8 @@ fn refused(number: u8, a: u64) -> TrustReply {
 #[test]
 fn refused_caches(rt: HostRuntime) -> Result<(), Fail> {
     let fixed = Arc::new(rt.alloc(), StaticTrust::new(Vec::new(rt.alloc())))?;
-    let mut cut = text(rt.alloc(), &[C])?;
-    let _ = cut.pop();
-    assert_eq!(rt; cut.len(), 45);
     let caches = vec![in rt.alloc();
-        declared(rt.alloc(), &cut)?,
+        declared(rt.alloc(), &ONE_ENTRY_CACHE[..45])?,
         declared(rt.alloc(), &text(rt.alloc(), &[D, C])?)?,
     ]?;
     let mut list = Trusted::open(rt.alloc(), fixed, caches)?;
@@ -78,7 +88,7 @@ fn refused_caches(rt: HostRuntime) -> Result<(), Fail> {
 #[test]
 fn one_cache_many_times(rt: HostRuntime) -> Result<(), Fail> {
     let fixed = Arc::new(rt.alloc(), StaticTrust::new(Vec::new(rt.alloc())))?;
-    let caches = vec![in rt.alloc(); declared(rt.alloc(), &text(rt.alloc(), &[C])?)?]?;
+    let caches = vec![in rt.alloc(); declared(rt.alloc(), &ONE_ENTRY_CACHE)?]?;
     let mut list = Trusted::open(rt.alloc(), fixed, caches)?;
     for module in 0..64 {
         assert_eq!(rt; list.load(0), Loaded { module });
@@ -99,7 +109,7 @@ fn static_before_loaded(rt: HostRuntime) -> Result<(), Fail> {
     let modules = vec![in rt.alloc(); Module::one(rt.alloc(), C)?]?;
     let fixed = Arc::new(rt.alloc(), StaticTrust::new(modules))?;
     let caches = vec![in rt.alloc();
-        declared(rt.alloc(), &text(rt.alloc(), &[C])?)?,
+        declared(rt.alloc(), &ONE_ENTRY_CACHE)?,
         declared(rt.alloc(), &text(rt.alloc(), &[C, D, D])?)?,
     ]?;
     let mut list = Trusted::open(rt.alloc(), fixed, caches)?;
@@ -127,5 +137,35 @@ fn static_before_loaded(rt: HostRuntime) -> Result<(), Fail> {
     }
     assert_eq!(rt; list.fixed().look(&C), Some((0, 0)));
     assert_eq!(rt; list.fixed().look(&D), None);
+    Ok(())
+}
+
+/// A cdhash that begins with this number.
+fn numbered(number: u32) -> [u8; 20] {
+    let mut cdhash = [0; 20];
+    cdhash[..4].copy_from_slice(&number.to_be_bytes());
+    cdhash
+}
+
+#[test]
+fn most_entries(rt: HostRuntime) -> Result<(), Fail> {
+    let mut entries = Vec::new(rt.alloc());
+    for number in 0..65_536 {
+        entries.push(numbered(number))?;
+    }
+    let bytes = text(rt.alloc(), &entries)?;
+    assert_eq!(rt; bytes.len(), 1_441_816);
+    let fixed = Arc::new(rt.alloc(), StaticTrust::new(Vec::new(rt.alloc())))?;
+    let caches = vec![in rt.alloc(); declared(rt.alloc(), &bytes)?]?;
+    let mut list = Trusted::open(rt.alloc(), fixed, caches)?;
+    assert_eq!(rt; list.load(0), Loaded { module: 0 });
+    assert_eq!(rt;
+        list.lookup(&numbered(65_535)),
+        Listed {
+            module: 0,
+            place: 65_535
+        }
+    );
+    assert_eq!(rt; list.lookup(&numbered(65_536)), Unlisted);
     Ok(())
 }

@@ -76,7 +76,8 @@ fn look_loaded(
 
 impl Trusted {
     /// The list of these static modules and declared caches, of which none is loaded yet. A cache whose bytes
-    /// were refused stands as its refusal. All memory that the list needs is taken here.
+    /// were refused stands as its refusal. All memory that the list needs is taken here: `NoMemory` comes where
+    /// there is none for the numbers of 64 loaded caches.
     pub fn open(
         alloc: Global,
         fixed: Arc<StaticTrust>,
