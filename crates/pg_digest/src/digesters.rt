@@ -1,5 +1,5 @@
 //! What computes digests.
-ghost use Rattle.std.specs.Prelude.{◌≡◌, ℕ, List, length};
+ghost use Rattle.std.specs.Prelude.{◌≡◌, ◌+◌, ◌≤◌, ℕ, List, length};
 ghost use Rattle.pg_bytes.specs.Counts.{Rose};
 ghost use Rattle.pg_digest.specs.Kinds.{size_of};
 ghost use Rattle.pg_digest.specs.declared.kinds.HashKind.{HashKind};
@@ -17,10 +17,11 @@ pub trait Digester {
     /// The calls so far. The count stands still once it is 2^64 - 1.
     ghost calls: { Self → ℕ };
 
-    /// The digest of `bytes` under `kind`, with as many bytes as `kind` says. Each call counts.
+    /// The digest of `bytes` under `kind`, with as many bytes as `kind` says. Each call counts, once.
     fn hash(&mut self, kind: HashKind, bytes: &[u8]) -> Digest
         ensures value { result ≡ hash kind bytes.now }
-        ensures counted { Rose (calls self.old) (calls self.new) };
+        ensures counted { Rose (calls self.old) (calls self.new) }
+        ensures once { calls self.new ≤ calls self.old + 1 };
 
     // A digest has the length of its hash type.
     ghost sized: { (kind : HashKind) (bytes : List ℕ) → length (hash kind bytes) ≡ size_of kind };

@@ -32,6 +32,18 @@ pub fn kind_of(number: u8) -> Option<HashKind>
     }
 }
 
+/// The number of a hash type, by which a code directory names it: 1 to 4 in the order of the types.
+pub fn number(kind: HashKind) -> u8
+    ensures { result ≡ number_of kind }
+{
+    match kind {
+        HashKind::Sha1 => 1,
+        HashKind::Sha256 => 2,
+        HashKind::Sha256Short => 3,
+        HashKind::Sha384 => 4,
+    }
+}
+
 /// How many bytes a digest of this type has: 20, 32, 20 and 48 in the order of the types.
 pub fn size(kind: HashKind) -> u8
     ensures { result ≡ size_of kind }

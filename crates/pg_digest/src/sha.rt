@@ -1,5 +1,5 @@
 //! The digester of the SHA functions.
-ghost use Rattle.std.specs.Prelude.{◌≡◌, ◌+◌, ◌-◌, ◌^◌, length, min};
+ghost use Rattle.std.specs.Prelude.{◌≡◌, ◌+◌, ◌-◌, ◌^◌, ◌≤◌, length, min};
 ghost use Rattle.pg_bytes.specs.Counts.{Rose};
 ghost use Rattle.pg_digest.specs.Digests.{sha_hash};
 ghost use Rattle.pg_digest.specs.DigestLaws.{length-sha_hash};
@@ -42,11 +42,12 @@ impl Digester for ShaDigester {
 
     ghost sized = { length-sha_hash };
 
-    // One call more, and no other number: the trait leaves by how much its count rises.
+    // One call more, up to the number at which the count stands still.
     fn hash(&mut self, kind: HashKind, bytes: &[u8]) -> Digest
         ensures value { result ≡ sha_hash kind bytes.now }
         ensures sized { length result ≡ size_of kind }
         ensures counted { Rose self.old self.new }
+        ensures once { self.new ≤ self.old + 1 }
         ensures by_one { self.new ≡ min (self.old + 1) (2 ^ 64 - 1) }
     {
         self.calls = self.calls.saturating_add(1);

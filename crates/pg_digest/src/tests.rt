@@ -80,6 +80,7 @@ fn kinds_by_number(rt: HostRuntime) {
     ] {
         assert_eq!(rt; kind_of(number), kind, "{number}");
     }
+    assert_eq!(rt; crate::number(HashKind::Sha256Short), 3);
     assert!(rt; rank(HashKind::Sha1) < rank(HashKind::Sha256Short));
     assert!(rt; rank(HashKind::Sha256) < rank(HashKind::Sha384));
 }
