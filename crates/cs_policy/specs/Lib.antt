@@ -1,1 +1,5 @@
--- The types alone are cited, as `cs_policy.specs.declared`.
+-- The types of events, replies and refusals are cited as `cs_policy.specs.declared`.
+pub mod ProcFlags
+pub mod Access
+pub mod FlagLaws
+pub mod Refusal

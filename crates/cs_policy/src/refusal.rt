@@ -1,5 +1,10 @@
 //! Why bytes were refused.
 
+ghost use Rattle.std.specs.Prelude.{◌≡◌, Some};
+ghost use Rattle.cs_policy.specs.Refusal.{family_name, refusal_text};
+
+use std::fmt;
+
 /// The family of the refusals of fat files.
 pub const FAT_FAMILY: u8 = 1;
 
@@ -32,3 +37,34 @@ pub struct Refusal {
     /// The refusal's second argument, or 0 where it has none.
     pub b: u64,
 }
+
+/// The refusal as text: `FAMILY.NUMBER.A.B`, with the family's name (`fat`, `mach`, `super`, `dir`, `blob` or `trust`)
+/// and decimal numbers, as `fat.5.0.2`.
+impl fmt::Display for Refusal {
+    ghost output = { λ refusal. Some (refusal_text refusal) };
+
+    fn fmt<W: fmt::Write>(&self, f: &mut fmt::Formatter<W>) -> fmt::Result {
+        let Refusal { number, a, b, .. } = *self;
+        let family = family_name(self.family);
+        write!(f, "{family}.{number}.{a}.{b}")
+    }
+}
+
+/// The name of a family, or `unknown` for a number that no family has.
+#[tactic(auto, unfolding(crate::specs::Refusal::family_name))]
+fn family_name(family: u8) -> &'static str
+    ensures { result.now ≡ family_name family }
+{
+    match family {
+        FAT_FAMILY => "fat",
+        IMAGE_FAMILY => "mach",
+        SUPERBLOB_FAMILY => "super",
+        DIRECTORY_FAMILY => "dir",
+        SIGNATURE_FAMILY => "blob",
+        TRUST_FAMILY => "trust",
+        _ => "unknown",
+    }
+}
+
+#[cfg(test)]
+mod tests;
