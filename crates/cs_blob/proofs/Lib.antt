@@ -2,3 +2,4 @@ pub mod RuleFacts
 pub mod PartsFacts
 pub mod CandidateFacts
 pub mod GrammarFacts
+pub mod DigestFacts

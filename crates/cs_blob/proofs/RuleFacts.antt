@@ -33,13 +33,13 @@ KeptBefore-end rule xs i known le =
     let gone : drop i xs ≡ [] = grind (arith, common_steps) in
     sym known.same ∙ rw gone refl
 
-slot_at : (t : ℕ) → 0 < t → t < 12 → get_or slot_types (t - 1) 0 ≡ t
+pub slot_at : (t : ℕ) → 0 < t → t < 12 → get_or slot_types (t - 1) 0 ≡ t
 unfolding slot_types
 slot_at t positive lt =
     let within : t - 1 < 11 = omega arith in
     get_or-range_with_len 1 11 (t - 1) 0 within ∙ omega arith
 
-length-slot_types : length slot_types ≡ 11
+pub length-slot_types : length slot_types ≡ 11
 unfolding slot_types
 length-slot_types = refl
 

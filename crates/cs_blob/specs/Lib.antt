@@ -5,3 +5,4 @@ pub mod Rules
 pub mod Signature
 pub mod Signed
 pub mod Refusals
+pub mod Digests

@@ -1,9 +1,10 @@
--- The refusals of a signature: their numbers, and which of them are found before any digest is made.
-use Rattle.std.specs.Prelude.{◌≡◌, ℕ, Bool, true, false}
+-- The refusals of a signature: their numbers.
+use Rattle.std.specs.Prelude.{ℕ}
+use Rattle.cs_policy.specs.declared.refusal.Refusal.{Refusal}
+use Rattle.cs_superblob.specs.Refusals as index
+use Rattle.cs_directory.specs.Refusals as directory
 use Rattle.cs_blob.specs.declared.refusal.BlobRefusal.{BlobRefusal}
 use Rattle.cs_blob.specs.declared.refusal.BlobRefusal.TheVariants.{Super, Dir, NoDirectory, SameRank, CmsPresent, SpecialMismatch, SpecialMissing, LimitPastEnd}
-use Rattle.cs_blob.specs.declared.refusal.BlobFail.{BlobFail}
-use Rattle.cs_blob.specs.declared.refusal.BlobFail.TheVariants.{Refused, NoMemory}
 
 -- the number by which a refusal is printed
 abbrev pub number_of : BlobRefusal → ℕ
@@ -16,19 +17,28 @@ number_of (SpecialMismatch slot) = 6
 number_of (SpecialMissing slot) = 7
 number_of LimitPastEnd = 8
 
--- whether the rule of a refusal is tried before anything is digested
-abbrev pub is_before_digests : BlobRefusal → Bool
-is_before_digests (Super refusal) = true
-is_before_digests (Dir refusal) = true
-is_before_digests NoDirectory = true
-is_before_digests (SameRank a b) = true
-is_before_digests (CmsPresent len) = true
-is_before_digests (SpecialMismatch slot) = false
-is_before_digests (SpecialMissing slot) = false
-is_before_digests LimitPastEnd = false
+-- what else a refusal of the signature's own rules tells, or 0
+abbrev pub arguments_of : BlobRefusal → ℕ × ℕ
+arguments_of (Super refusal) = (0, 0)
+arguments_of (Dir refusal) = (0, 0)
+arguments_of NoDirectory = (0, 0)
+arguments_of (SameRank a b) = (a, b)
+arguments_of (CmsPresent len) = (len, 0)
+arguments_of (SpecialMismatch slot) = (slot, 0)
+arguments_of (SpecialMissing slot) = (slot, 0)
+arguments_of LimitPastEnd = (0, 0)
 
--- Where such a rule is broken, the count of the digester's calls stands as before: no byte was digested. Nor was
--- any where memory ran out.
-abbrev pub IsUnread : (before now : ℕ) → BlobFail → Type 0
-IsUnread before now (Refused refusal) = is_before_digests refusal ≡ true → now ≡ before
-IsUnread before now NoMemory = now ≡ before
+abbrev own_refusal : BlobRefusal → Refusal
+own_refusal refusal = record {
+  family = 5;
+  number = number_of refusal;
+  a = (arguments_of refusal).0;
+  b = (arguments_of refusal).1;
+}
+
+-- A refusal as all formats have it. One of the SuperBlob or of a code directory is told as that format tells it; the
+-- others have the family of signatures.
+abbrev pub refusal_of : BlobRefusal → Refusal
+refusal_of (Super refusal) = index.refusal_of refusal
+refusal_of (Dir refusal) = directory.refusal_of refusal
+refusal_of refusal = own_refusal refusal

@@ -1,10 +1,11 @@
 //! The rules on what stands beside the best code directory.
 
-ghost use Rattle.std.specs.Prelude.{◌≡◌, ◌≤◌, ◌<◌, All, IfErr, false};
+ghost use Rattle.std.specs.Prelude.{◌≡◌, ◌+◌, ◌-◌, ◌≤◌, ◌<◌, All, IfErr, OnOk};
 ghost use Rattle.cs_blob.specs.Parts.{IsWithin};
-ghost use Rattle.cs_blob.specs.Refusals.{is_before_digests};
+ghost use Rattle.cs_blob.specs.Digests.{special_blobs, digests_until};
 ghost use Rattle.cs_blob.specs.Rules.{cms_rule, special_rule, each_special, limit_rule, Tries};
 ghost use Rattle.cs_blob.specs.Signed.{IsCandidate};
+ghost use Rattle.cs_blob.specs.declared.refusal.BlobRefusal.TheVariants.{LimitPastEnd};
 
 use crate::candidates::Candidate;
 use crate::parts::{entry, part};
@@ -42,7 +43,8 @@ pub fn specials<D: Digester>(
     requires within { All (λ seat. IsWithin bytes.now seat.range) entries.now }
     requires best { IsCandidate bytes.now best.now }
     ensures tries { Tries (each_special D.hash bytes.now entries.now best.now) result }
-    ensures late { IfErr result (λ refusal. is_before_digests refusal ≡ false) }
+    ensures digests { OnOk result (D.calls d.new ≤ D.calls d.old + special_blobs entries.now 11) }
+    ensures until { IfErr result (λ refusal. D.calls d.new ≤ D.calls d.old + digests_until entries.now refusal) }
     ensures counted { D.calls d.old ≤ D.calls d.new }
 {
     for slot in 1..12 {
@@ -63,8 +65,10 @@ fn special<D: Digester>(
     requires within { All (λ seat. IsWithin bytes.now seat.range) entries.now }
     requires best { IsCandidate bytes.now best.now }
     requires slot { 0 < slot }
+    requires last { slot < 12 }
     ensures tries { Tries (special_rule D.hash bytes.now entries.now best.now slot) result }
-    ensures late { IfErr result (λ refusal. is_before_digests refusal ≡ false) }
+    ensures digests { OnOk result (D.calls d.new + special_blobs entries.now (slot - 1) ≤ D.calls d.old + special_blobs entries.now slot) }
+    ensures until { IfErr result (λ refusal. D.calls d.new + special_blobs entries.now (slot - 1) ≤ D.calls d.old + digests_until entries.now refusal) }
     ensures counted { D.calls d.old ≤ D.calls d.new }
 {
     let Some(seat) = entry(entries, slot) else {
@@ -86,7 +90,8 @@ fn special<D: Digester>(
 #[tactic(auto, unfolding(crate::specs::Rules::limit_rule))]
 pub fn limited(best: &Candidate, slice: &Range) -> Result<(), BlobRefusal>
     ensures tries { Tries (limit_rule best.now slice.now) result }
-    ensures late { IfErr result (λ refusal. is_before_digests refusal ≡ false) }
+    ensures within { OnOk result (best.now.directory.limit ≤ slice.now.len) }
+    ensures only { IfErr result (λ refusal. refusal ≡ LimitPastEnd) }
 {
     if best.directory.limit() > slice.len {
         return Err(BlobRefusal::LimitPastEnd);

@@ -1,8 +1,9 @@
 //! The rules of a signature, tried in their order.
 
-ghost use Rattle.std.specs.Prelude.{◌≤◌, IfOk, IfErr, OnOk};
+ghost use Rattle.std.specs.Prelude.{◌+◌, ◌≤◌, IfOk, IfErr, OnOk};
 ghost use Rattle.pg_bytes.specs.Counts.{Rose};
-ghost use Rattle.cs_blob.specs.Refusals.{IsUnread};
+ghost use Rattle.cs_blob.specs.Parts.{entries};
+ghost use Rattle.cs_blob.specs.Digests.{special_blobs, digests_of_failure};
 ghost use Rattle.cs_blob.specs.Rules.{broken, Refuses};
 ghost use Rattle.cs_blob.specs.Signed.{IsSignature, IsBest};
 
@@ -19,8 +20,9 @@ use std::alloc::Global;
 /// code directory or a SuperBlob; there is a blob of type 0; each code directory, of type 0 or 0x1000 to 0x1004,
 /// is one; no two have hash types of one rank; a CMS signature is empty; for each type from 1 to 11, a blob of
 /// it has a special slot in the best directory and matches it; that directory's limit is within the slice. The
-/// digester is called for those special slots and for the cdhash alone: where a rule before them is broken, or
-/// memory runs out, it is not called. On an error the bytes are dropped.
+/// digester is called once for each blob of those types, until one is refused, and once for the cdhash: no CMS
+/// signature and no other blob is digested. Where a rule before them is broken, or memory runs out, it is not
+/// called. On an error the bytes are dropped.
 pub fn blob<D: Digester>(
     alloc: Global,
     bytes: Vec<u8>,
@@ -28,8 +30,10 @@ pub fn blob<D: Digester>(
     d: &mut D,
 ) -> Result<Blob, BlobFail>
     ensures accepted { IfOk result (IsSignature D.hash bytes.items slice.now) }
+    ensures limited { IfOk result (λ held. held.best.limit ≤ slice.now.len) }
     ensures refused { IfErr result (Refuses (broken D.hash bytes.items slice.now)) }
-    ensures unread { IfErr result (IsUnread (D.calls d.old) (D.calls d.new)) }
+    ensures digests { OnOk result (D.calls d.new ≤ D.calls d.old + (special_blobs (entries bytes.items) 11 + 1)) }
+    ensures until { IfErr result (λ fail. D.calls d.new ≤ D.calls d.old + digests_of_failure (entries bytes.items) fail) }
     ensures hashed { OnOk result (Rose (D.calls d.old) (D.calls d.new)) }
     ensures counted { D.calls d.old ≤ D.calls d.new }
 {
@@ -52,8 +56,10 @@ fn best_of<D: Digester>(
     d: &mut D,
 ) -> Result<Candidate, BlobFail>
     ensures accepted { IfOk result (IsBest D.hash bytes.now slice.now) }
+    ensures limited { IfOk result (λ best. best.directory.limit ≤ slice.now.len) }
     ensures refused { IfErr result (Refuses (broken D.hash bytes.now slice.now)) }
-    ensures unread { IfErr result (IsUnread (D.calls d.old) (D.calls d.new)) }
+    ensures digests { OnOk result (D.calls d.new ≤ D.calls d.old + special_blobs (entries bytes.now) 11) }
+    ensures until { IfErr result (λ fail. D.calls d.new ≤ D.calls d.old + digests_of_failure (entries bytes.now) fail) }
     ensures counted { D.calls d.old ≤ D.calls d.new }
 {
     let parts = parts_of(alloc, bytes)?;

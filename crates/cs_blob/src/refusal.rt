@@ -1,6 +1,7 @@
 //! Why bytes are no signature of a slice.
 
 use cs_directory::DirRefusal;
+use cs_policy::{Refusal, SIGNATURE_FAMILY};
 use cs_superblob::{SuperFail, SuperRefusal};
 use std::alloc::{AllocError, AllocFailed};
 use thiserror::Error;
@@ -38,7 +39,7 @@ pub enum BlobRefusal {
 
 impl BlobRefusal {
     ghost use Rattle.std.specs.Prelude.{◌≡◌};
-    ghost use Rattle.cs_blob.specs.Refusals.{number_of};
+    ghost use Rattle.cs_blob.specs.Refusals.{number_of, arguments_of};
 
     /// The number by which the refusal is printed, 1 to 8 in the order of the variants.
     pub fn number(&self) -> u8
@@ -53,6 +54,45 @@ impl BlobRefusal {
             BlobRefusal::SpecialMismatch { .. } => 6,
             BlobRefusal::SpecialMissing { .. } => 7,
             BlobRefusal::LimitPastEnd => 8,
+        }
+    }
+
+    /// The numbers that the refusal tells, in the order of its fields, or 0 in place of each that it lacks.
+    fn arguments(&self) -> (u64, u64)
+        ensures { result ≡ arguments_of self.now }
+    {
+        match *self {
+            BlobRefusal::SameRank { a, b } => (a, b),
+            BlobRefusal::CmsPresent { len } => (len, 0),
+            BlobRefusal::SpecialMismatch { slot } | BlobRefusal::SpecialMissing { slot } => (
+                slot, 0,
+            ),
+            _ => (0, 0),
+        }
+    }
+}
+
+/// The refusal in numbers. Those of the SuperBlob and of a code directory keep their own family; the others have
+/// that of signatures.
+impl From<BlobRefusal> for Refusal {
+    ghost use Rattle.std.specs.Prelude.{◌≡◌};
+    ghost use Rattle.cs_blob.specs.Refusals.{refusal_of};
+
+    ghost from_gives = { λ refusal result. result ≡ refusal_of refusal };
+
+    fn from(refusal: BlobRefusal) -> Refusal {
+        match refusal {
+            BlobRefusal::Super(refusal) => Refusal::from(refusal),
+            BlobRefusal::Dir(refusal) => Refusal::from(refusal),
+            own => {
+                let (a, b) = own.arguments();
+                Refusal {
+                    family: SIGNATURE_FAMILY,
+                    number: own.number(),
+                    a,
+                    b,
+                }
+            }
         }
     }
 }

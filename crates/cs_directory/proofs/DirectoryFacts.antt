@@ -5,9 +5,11 @@ use Rattle.std.proofs.lemmas.Nat.{rows}
 use Rattle.pg_digest.specs.Kinds.{size_of}
 use Rattle.cs_directory.specs.Layout.{hash_size, kind}
 use Rattle.cs_directory.specs.Fields.{Fields}
-use Rattle.cs_directory.specs.Rules.{first, frame_rules, hash_rules, slot_rules, text_rules, IsFramed}
+use Rattle.pg_bytes.specs.Rules.{first}
+use Rattle.cs_directory.specs.Rules.{frame_rules, hash_rules, slot_rules, text_rules, IsFramed}
 use Rattle.cs_directory.specs.Directory.{IsDirectory, IsInside, slot_at, special_at}
-use Rattle.cs_directory.proofs.RuleFacts.{NoneBroken-from, AreKept-from}
+use Rattle.pg_bytes.proofs.RuleFacts.{NoneBroken-from}
+use Rattle.cs_directory.proofs.RuleFacts.{AreKept-from}
 
 -- where the header and the directory end, if the rules on them are kept
 pub IsFramed-from : (bytes : List ℕ) → first (frame_rules bytes) ≡ None → IsFramed bytes

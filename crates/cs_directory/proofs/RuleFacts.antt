@@ -1,35 +1,9 @@
 -- What the first broken rule of a list tells of its parts.
-use Rattle.std.proofs.Common.{◌≡◌, ℕ, true, false, List, [], ◌∷◌, ◌++◌, Option, Some, None, refl, ◌∙◌}
+use Rattle.std.proofs.Common.{◌≡◌, ℕ, List, ◌++◌, Option, Some, None, ◌∙◌}
 use Rattle.cs_directory.specs.declared.refusal.DirRefusal.{DirRefusal}
-use Rattle.cs_directory.specs.Rules.{Rule, first, frame_rules, hash_rules, slot_rules, text_rules, broken}
-
--- no rule of the list is broken
-abbrev pub NoneBroken : List Rule → Type 0
-NoneBroken [] = Unit {0}
-NoneBroken (rule ∷ more) = (rule.0 ≡ false) × NoneBroken more
-
-pub NoneBroken-from : (some : List Rule) → first some ≡ None → NoneBroken some
-NoneBroken-from [] e = tt
-NoneBroken-from ((true, refusal) ∷ more) e = absurd cc
-NoneBroken-from ((false, refusal) ∷ more) e = (refl, NoneBroken-from more e)
-
--- rules of which none is broken, and those after them
-pub first-append-kept : (some more : List Rule) → first some ≡ None → first (some ++ more) ≡ first more
-first-append-kept [] more e = refl
-first-append-kept ((true, refusal) ∷ some) more e = absurd cc
-first-append-kept ((false, refusal) ∷ some) more e = first-append-kept some more e
-
--- rules of which one is broken, and those after them
-pub first-append-broken : (some more : List Rule) (refusal : DirRefusal) → first some ≡ Some refusal → first (some ++ more) ≡ Some refusal
-first-append-broken [] more refusal e = absurd cc
-first-append-broken ((true, other) ∷ some) more refusal e = e
-first-append-broken ((false, other) ∷ some) more refusal e = first-append-broken some more refusal e
-
--- of two lists of rules no rule is broken
-kept-append : (some more : List Rule) → first (some ++ more) ≡ None → (first some ≡ None) × (first more ≡ None)
-kept-append [] more e = (refl, e)
-kept-append ((true, refusal) ∷ some) more e = absurd cc
-kept-append ((false, refusal) ∷ some) more e = kept-append some more e
+use Rattle.pg_bytes.specs.Rules.{Rule, first}
+use Rattle.pg_bytes.proofs.RuleFacts.{first-append-kept, first-append-broken, kept-append}
+use Rattle.cs_directory.specs.Rules.{frame_rules, hash_rules, slot_rules, text_rules, broken}
 
 -- no rule of a group is broken
 pub record AreKept (bytes : List ℕ) : Type 0 where
@@ -39,13 +13,13 @@ pub record AreKept (bytes : List ℕ) : Type 0 where
   pub text : first (text_rules bytes) ≡ None
 
 -- the rules behind each group
-abbrev behind_slot : List ℕ → List Rule
+abbrev behind_slot : List ℕ → List (Rule DirRefusal)
 behind_slot bytes = text_rules bytes
 
-abbrev behind_hash : List ℕ → List Rule
+abbrev behind_hash : List ℕ → List (Rule DirRefusal)
 behind_hash bytes = slot_rules bytes ++ behind_slot bytes
 
-abbrev behind_frame : List ℕ → List Rule
+abbrev behind_frame : List ℕ → List (Rule DirRefusal)
 behind_frame bytes = hash_rules bytes ++ behind_hash bytes
 
 -- the first broken rule of a group, where the groups before it are kept, is the first of all

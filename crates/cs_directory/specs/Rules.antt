@@ -2,20 +2,12 @@
 -- text. What the accepted profile leaves out are other versions than 0x20000 to 0x2ffff, hash pages of another
 -- size than 4,096 bytes, and scatter vectors.
 -- Source: `CS_CodeDirectory` in XNU's `cs_blobs.h` and its checks in `ubc_subr.c`.
-use Rattle.std.specs.Prelude.{◌≡◌, ℕ, ◌+◌, ◌*◌, ◌≤◌, Bool, cond, not, ◌&&◌, ◌||◌, List, [], ◌∷◌, ◌++◌, length, drop, Option, Some, None, is_none, Result, MatchResult, position, nat_lt, nat_le, ◌==◌}
+use Rattle.std.specs.Prelude.{◌≡◌, ℕ, ◌+◌, ◌*◌, ◌≤◌, Bool, not, ◌&&◌, ◌||◌, List, [], ◌∷◌, ◌++◌, length, drop, Option, None, is_none, position, nat_lt, nat_le, ◌==◌}
+use Rattle.pg_bytes.specs.Rules.{Rule, first}
 use Rattle.pg_digest.specs.Kinds.{kind_numbered, size_of}
 use Rattle.cs_directory.specs.declared.refusal.DirRefusal.{DirRefusal}
 use Rattle.cs_directory.specs.declared.refusal.DirRefusal.TheVariants.{Short, BadMagic, LengthBad, Version, PageSize, HashType, HashSize, SlotsOut, Scatter, IdentBad, TeamBad}
 use Rattle.cs_directory.specs.Layout.{magic, length_field, version, hash_offset, ident_offset, special_slots, code_slots, hash_size, hash_type, page_size, scatter_offset, team_offset, header_length, kind, blob_bytes}
-
--- A rule is a test that passes where the rule is broken, and the refusal that tells of it.
-abbrev pub Rule : Type 0
-Rule = Bool × DirRefusal
-
--- the refusal of the first broken rule
-abbrev pub first : List Rule → Option DirRefusal
-first [] = None
-first (rule ∷ rules) = cond rule.0 (Some rule.1) (first rules)
 
 -- whether the place is past the directory's end, or no zero byte stands from it to that end
 abbrev pub lacks_text : List ℕ → ℕ → Bool
@@ -29,7 +21,7 @@ slots_are_out bytes =
     || nat_lt (length_field bytes) (hash_offset bytes + code_slots bytes * hash_size bytes)
 
 -- on the blob: its size, magic, length and version
-abbrev pub frame_rules : List ℕ → List Rule
+abbrev pub frame_rules : List ℕ → List (Rule DirRefusal)
 frame_rules bytes =
     (nat_lt (length bytes) 44, Short)
     ∷ (not (magic bytes == 0xfade0c02), BadMagic)
@@ -39,7 +31,7 @@ frame_rules bytes =
     ∷ []
 
 -- on how pages are hashed
-abbrev pub hash_rules : List ℕ → List Rule
+abbrev pub hash_rules : List ℕ → List (Rule DirRefusal)
 hash_rules bytes =
     (not (page_size bytes == 12), PageSize (page_size bytes))
     ∷ (is_none (kind_numbered (hash_type bytes)), HashType (hash_type bytes))
@@ -47,30 +39,26 @@ hash_rules bytes =
     ∷ []
 
 -- on where the slots lie
-abbrev pub slot_rules : List ℕ → List Rule
+abbrev pub slot_rules : List ℕ → List (Rule DirRefusal)
 slot_rules bytes =
     (slots_are_out bytes, SlotsOut)
     ∷ (nat_le 0x20100 (version bytes) && not (scatter_offset bytes == 0), Scatter)
     ∷ []
 
 -- on the identifiers
-abbrev pub text_rules : List ℕ → List Rule
+abbrev pub text_rules : List ℕ → List (Rule DirRefusal)
 text_rules bytes =
     (lacks_text bytes (ident_offset bytes), IdentBad)
     ∷ (nat_le 0x20200 (version bytes) && not (team_offset bytes == 0) && lacks_text bytes (team_offset bytes), TeamBad)
     ∷ []
 
 -- all rules in their order
-abbrev pub rules : List ℕ → List Rule
+abbrev pub rules : List ℕ → List (Rule DirRefusal)
 rules bytes = frame_rules bytes ++ (hash_rules bytes ++ (slot_rules bytes ++ text_rules bytes))
 
 -- the refusal of the first rule that the text breaks, or none where it is a code directory
 unfoldable pub broken : List ℕ → Option DirRefusal
 broken bytes = first (rules bytes)
-
--- a result that tries some rules: it is `Ok` where none is broken, and else the first one's refusal
-abbrev pub Tries : {T : Type 0} → List Rule → Result T DirRefusal → Type 0
-Tries some result = MatchResult result (λ _. first some ≡ None) (λ refusal. first some ≡ Some refusal)
 
 -- Where the first rules are kept, the header lies within the directory, and the directory within the text.
 pub record IsFramed (bytes : List ℕ) : Type 0 where

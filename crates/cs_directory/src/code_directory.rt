@@ -204,6 +204,7 @@ impl Directory {
         requires { IsDirectory bytes.now self.now }
         ensures value { result ≡ cdhash D.hash bytes.now }
         ensures counted { Rose (D.calls d.old) (D.calls d.new) }
+        ensures once { D.calls d.new ≤ D.calls d.old + 1 }
     {
         let digest = d.hash(self.kind, front(bytes, self.length));
         let mut first = [0; 20];

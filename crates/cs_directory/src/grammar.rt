@@ -4,7 +4,8 @@ ghost use Rattle.std.specs.Prelude.{◌≡◌, ◌≤◌, length, IfOk, IfErr, O
 ghost use Rattle.pg_digest.specs.Kinds.{size_of};
 ghost use Rattle.cs_directory.specs.Layout.{hash_size, length_field};
 ghost use Rattle.cs_directory.specs.Layout as layout;
-ghost use Rattle.cs_directory.specs.Rules.{Tries, IsFramed, lacks_text, frame_rules, hash_rules, slot_rules, text_rules, broken};
+ghost use Rattle.pg_bytes.specs.Rules.{Tries};
+ghost use Rattle.cs_directory.specs.Rules.{IsFramed, lacks_text, frame_rules, hash_rules, slot_rules, text_rules, broken};
 ghost use Rattle.cs_directory.specs.Directory.{HasFields, IsDirectory, IsInside};
 
 use crate::code_directory::Directory;

@@ -1,5 +1,6 @@
 //! Why bytes are no code directory.
 
+use cs_policy::{DIRECTORY_FAMILY, Refusal};
 use thiserror::Error;
 
 /// The first rule, in this order, that the bytes break.
@@ -42,7 +43,7 @@ pub enum DirRefusal {
 
 impl DirRefusal {
     ghost use Rattle.std.specs.Prelude.{◌≡◌};
-    ghost use Rattle.cs_directory.specs.Refusals.{number_of};
+    ghost use Rattle.cs_directory.specs.Refusals.{number_of, argument_of};
 
     /// The number by which the refusal is printed, 1 to 11 in the order of the variants.
     pub fn number(&self) -> u8
@@ -60,6 +61,35 @@ impl DirRefusal {
             DirRefusal::Scatter => 9,
             DirRefusal::IdentBad => 10,
             DirRefusal::TeamBad => 11,
+        }
+    }
+
+    /// The version, the size or the hash type that the refusal tells of, or 0 where it has none.
+    fn argument(&self) -> u64
+        ensures { result ≡ argument_of self.now }
+    {
+        match *self {
+            DirRefusal::Version { v } => v,
+            DirRefusal::PageSize { n } | DirRefusal::HashType { n } | DirRefusal::HashSize { n } =>
+                n,
+            _ => 0,
+        }
+    }
+}
+
+/// The refusal in numbers, of the family of code directories.
+impl From<DirRefusal> for Refusal {
+    ghost use Rattle.std.specs.Prelude.{◌≡◌};
+    ghost use Rattle.cs_directory.specs.Refusals.{refusal_of};
+
+    ghost from_gives = { λ refusal result. result ≡ refusal_of refusal };
+
+    fn from(refusal: DirRefusal) -> Refusal {
+        Refusal {
+            family: DIRECTORY_FAMILY,
+            number: refusal.number(),
+            a: refusal.argument(),
+            b: 0,
         }
     }
 }

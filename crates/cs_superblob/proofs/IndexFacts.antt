@@ -9,9 +9,10 @@ use Rattle.cs_superblob.specs.declared.refusal.SuperRefusal.{SuperRefusal}
 use Rattle.cs_superblob.specs.declared.refusal.SuperFail.{SuperFail}
 use Rattle.cs_superblob.specs.declared.refusal.SuperFail.TheVariants.{Refused, NoMemory}
 use Rattle.cs_superblob.specs.Layout.{count, slot_type, seat_at, seats}
-use Rattle.cs_superblob.specs.Rules.{first, frame_rules, place_rule, place_rules, repeat_rules, is_out, is_repeated, broken, IsFramed, Refuses}
+use Rattle.pg_bytes.specs.Rules.{first}
+use Rattle.cs_superblob.specs.Rules.{frame_rules, place_rule, place_rules, repeat_rules, is_out, is_repeated, broken, IsFramed, Refuses}
 use Rattle.cs_superblob.specs.Index.{IsInside}
-use Rattle.cs_superblob.proofs.RuleFacts.{kept-cons, NoneBroken-from, first-append-kept, first-append-broken}
+use Rattle.pg_bytes.proofs.RuleFacts.{kept-cons, NoneBroken-from, first-append-kept, first-append-broken}
 
 -- where the table and the SuperBlob end, if the rules on them are kept
 pub IsFramed-from : (bytes : List ℕ) → first (frame_rules bytes) ≡ None → IsFramed bytes

@@ -1,2 +1,1 @@
-pub mod RuleFacts
 pub mod IndexFacts

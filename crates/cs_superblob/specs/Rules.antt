@@ -1,22 +1,14 @@
 -- The rules that a SuperBlob keeps, and the first of them that a text breaks. Each speaks of the whole text.
 -- The limit on entries and the rule that no type stands twice are this repository's own.
 -- Source: `CS_SuperBlob` in XNU's `cs_blobs.h` and its checks in `ubc_subr.c`.
-use Rattle.std.specs.Prelude.{◌≡◌, ℕ, ◌+◌, ◌≤◌, Bool, cond, not, ◌||◌, List, [], ◌∷◌, ◌++◌, length, take, map, Option, Some, None, Result, MatchResult, nat_lt, ◌==◌}
+use Rattle.std.specs.Prelude.{◌≡◌, ℕ, ◌+◌, ◌≤◌, Bool, not, ◌||◌, List, [], ◌∷◌, ◌++◌, length, take, map, Option, Some, None, nat_lt, ◌==◌}
 use Rattle.std.specs.List.{list_any}
+use Rattle.pg_bytes.specs.Rules.{Rule, first}
 use Rattle.cs_superblob.specs.declared.refusal.SuperRefusal.{SuperRefusal}
 use Rattle.cs_superblob.specs.declared.refusal.SuperRefusal.TheVariants.{Short, BadMagic, LengthBad, CountBad, EntryOut, Twice}
 use Rattle.cs_superblob.specs.declared.refusal.SuperFail.{SuperFail}
 use Rattle.cs_superblob.specs.declared.refusal.SuperFail.TheVariants.{Refused, NoMemory}
 use Rattle.cs_superblob.specs.Layout.{magic, length_field, count, table_end, slot_type, offset, blob_length, indexes, seats}
-
--- A rule is a test that passes where the rule is broken, and the refusal that tells of it.
-abbrev pub Rule : Type 0 → Type 0
-Rule R = Bool × R
-
--- the refusal of the first broken rule
-abbrev pub first : {R : Type 0} → List (Rule R) → Option R
-first [] = None
-first (rule ∷ rules) = cond rule.0 (Some rule.1) (first rules)
 
 -- on the header and on how long the table is
 abbrev pub frame_rules : List ℕ → List (Rule SuperRefusal)
@@ -59,10 +51,6 @@ rules bytes = frame_rules bytes ++ (place_rules bytes ++ repeat_rules bytes)
 -- the refusal of the first rule that the text breaks, or none where it is a SuperBlob
 unfoldable pub broken : List ℕ → Option SuperRefusal
 broken bytes = first (rules bytes)
-
--- a result that tries some rules: it is `Ok` where none is broken, and else the first one's refusal
-abbrev pub Tries : {T R : Type 0} → List (Rule R) → Result T R → Type 0
-Tries some result = MatchResult result (λ _. first some ≡ None) (λ refusal. first some ≡ Some refusal)
 
 -- an error that refuses gives this refusal; out of memory is tied to nothing
 abbrev pub Refuses : Option SuperRefusal → SuperFail → Type 0

@@ -5,7 +5,8 @@ ghost use Rattle.std.specs.List.{list_any};
 ghost use Rattle.pg_bytes.specs.Fields.{be32_at};
 ghost use Rattle.cs_superblob.specs.Layout.{seats, seat_at};
 ghost use Rattle.cs_superblob.specs.Layout as layout;
-ghost use Rattle.cs_superblob.specs.Rules.{Tries, Refuses, first, frame_rules, place_rules, repeat_rules, is_out, is_repeated, broken, IsFramed};
+ghost use Rattle.pg_bytes.specs.Rules.{Tries, first};
+ghost use Rattle.cs_superblob.specs.Rules.{Refuses, frame_rules, place_rules, repeat_rules, is_out, is_repeated, broken, IsFramed};
 ghost use Rattle.cs_superblob.specs.Index.{IsIndex, IsInside};
 
 use crate::entries::Seat;

@@ -1,5 +1,6 @@
 //! Why bytes are no SuperBlob.
 
+use cs_policy::{Refusal, SUPERBLOB_FAMILY};
 use std::alloc::{AllocError, AllocFailed};
 use thiserror::Error;
 
@@ -29,7 +30,7 @@ pub enum SuperRefusal {
 
 impl SuperRefusal {
     ghost use Rattle.std.specs.Prelude.{◌≡◌};
-    ghost use Rattle.cs_superblob.specs.Refusals.{number_of};
+    ghost use Rattle.cs_superblob.specs.Refusals.{number_of, argument_of};
 
     /// The number by which the refusal is printed, 1 to 6 in the order of the variants.
     pub fn number(&self) -> u8
@@ -42,6 +43,35 @@ impl SuperRefusal {
             SuperRefusal::CountBad => 4,
             SuperRefusal::EntryOut { .. } => 5,
             SuperRefusal::Twice { .. } => 6,
+        }
+    }
+
+    /// What else the refusal tells, or 0.
+    fn argument(&self) -> u64
+        ensures { result ≡ argument_of self.now }
+    {
+        match *self {
+            SuperRefusal::BadMagic { magic } => magic,
+            SuperRefusal::EntryOut { index } => index,
+            SuperRefusal::Twice { slot } => slot,
+            SuperRefusal::Short | SuperRefusal::LengthBad | SuperRefusal::CountBad => 0,
+        }
+    }
+}
+
+/// The refusal in numbers, of the family of SuperBlobs.
+impl From<SuperRefusal> for Refusal {
+    ghost use Rattle.std.specs.Prelude.{◌≡◌};
+    ghost use Rattle.cs_superblob.specs.Refusals.{refusal_of};
+
+    ghost from_gives = { λ refusal result. result ≡ refusal_of refusal };
+
+    fn from(refusal: SuperRefusal) -> Refusal {
+        Refusal {
+            family: SUPERBLOB_FAMILY,
+            number: refusal.number(),
+            a: refusal.argument(),
+            b: 0,
         }
     }
 }

@@ -1,5 +1,5 @@
 -- What the rules of a trust cache tell of their first broken one.
-use Rattle.std.proofs.Common.{◌≡◌, ℕ, ◌+◌, ◌-◌, ◌<◌, ◌≤◌, List, [], ◌∷◌, ◌++◌, length, get_or, map, true, false, Option, Some, None, is_some, unwrap_or, refl, sym, ◌∙◌, ap, arith}
+use Rattle.std.proofs.Common.{◌≡◌, ℕ, ◌+◌, ◌-◌, ◌<◌, ◌≤◌, List, [], ◌∷◌, length, get_or, map, true, false, Option, Some, None, is_some, unwrap_or, refl, sym, ◌∙◌, ap, arith}
 use Rattle.std.proofs.lemmas.Bool.{lt-ltb}
 use Rattle.std.proofs.lemmas.List.{get_or_default}
 use Rattle.std.proofs.lemmas.List.FromFn.{length-range_with_len, get_or-range_with_len}
@@ -9,20 +9,10 @@ use Rattle.cs_trust.specs.declared.refusal.TrustRefusal.{TrustRefusal}
 use Rattle.cs_trust.specs.declared.refusal.TrustRefusal.TheVariants.{NotSorted}
 use Rattle.cs_trust.specs.Order.{order, IsTable}
 use Rattle.cs_trust.specs.Layout.{count, cdhash_at, cdhashes}
-use Rattle.cs_trust.specs.Rules.{Rule, first, falls, first_fall, frame_rules, order_rules, broken}
+use Rattle.pg_bytes.specs.Rules.{first}
+use Rattle.pg_bytes.proofs.RuleFacts.{first-append-kept, first-append-broken}
+use Rattle.cs_trust.specs.Rules.{falls, first_fall, frame_rules, order_rules, broken}
 use Rattle.cs_trust.proofs.PlaceFacts.{position_is, position_none, position_fails}
-
--- rules of which none is broken, and those after them
-first-append-kept : (some more : List Rule) → first some ≡ None → first (some ++ more) ≡ first more
-first-append-kept [] more e = refl
-first-append-kept ((true, refusal) ∷ some) more e = absurd cc
-first-append-kept ((false, refusal) ∷ some) more e = first-append-kept some more e
-
--- rules of which one is broken, and those after them
-first-append-broken : (some more : List Rule) (refusal : TrustRefusal) → first some ≡ Some refusal → first (some ++ more) ≡ Some refusal
-first-append-broken [] more refusal e = absurd cc
-first-append-broken ((true, other) ∷ some) more refusal e = e
-first-append-broken ((false, other) ∷ some) more refusal e = first-append-broken some more refusal e
 
 pub broken_by_frame : (bytes : List ℕ) (refusal : TrustRefusal) → first (frame_rules bytes) ≡ Some refusal → broken bytes ≡ Some refusal
 unfolding broken

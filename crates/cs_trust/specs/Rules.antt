@@ -2,24 +2,16 @@
 -- whole text.
 -- Source: `trust_cache_module1` in XNU's `trustcache.h`. That the length is exact, the entries are in order and
 -- at most 65,536 are taken is the accepted profile.
-use Rattle.std.specs.Prelude.{◌≡◌, ℕ, ◌-◌, Bool, cond, not, ◌&&◌, List, [], ◌∷◌, ◌++◌, length, Option, Some, None, is_some, unwrap_or, Result, MatchResult, position, slice_index_or, nat_lt, ◌==◌}
+use Rattle.std.specs.Prelude.{◌≡◌, ℕ, ◌-◌, Bool, not, ◌&&◌, List, [], ◌∷◌, ◌++◌, length, Option, Some, None, is_some, unwrap_or, position, slice_index_or, nat_lt, ◌==◌}
 use Rattle.std.specs.List.{range_with_len}
 use Rattle.std.specs.Ordering.{is_lt}
+use Rattle.pg_bytes.specs.Rules.{Rule, first}
 use Rattle.cs_trust.specs.declared.refusal.TrustRefusal.{TrustRefusal}
 use Rattle.cs_trust.specs.declared.refusal.TrustRefusal.TheVariants.{Short, Version, LengthBad, NotSorted, TooMany}
 use Rattle.cs_trust.specs.declared.refusal.TrustFail.{TrustFail}
 use Rattle.cs_trust.specs.declared.refusal.TrustFail.TheVariants.{Refused, NoMemory}
 use Rattle.cs_trust.specs.Order.{order}
 use Rattle.cs_trust.specs.Layout.{version, count, size_of, cdhashes}
-
--- A rule is a test that passes where the rule is broken, and the refusal that tells of it.
-abbrev pub Rule : Type 0
-Rule = Bool × TrustRefusal
-
--- the refusal of the first broken rule
-abbrev pub first : List Rule → Option TrustRefusal
-first [] = None
-first (rule ∷ rules) = cond rule.0 (Some rule.1) (first rules)
 
 -- whether the entry at a place is less than the entry before
 abbrev pub falls : List (List ℕ) → ℕ → Bool
@@ -31,7 +23,7 @@ unfoldable pub first_fall : List (List ℕ) → Option ℕ
 first_fall entries = position (falls entries) (range_with_len 0 (length entries))
 
 -- on the header and the length
-abbrev pub frame_rules : List ℕ → List Rule
+abbrev pub frame_rules : List ℕ → List (Rule TrustRefusal)
 frame_rules bytes =
     (nat_lt (length bytes) 24, Short)
     ∷ (not (version bytes == 1), Version (version bytes))
@@ -40,16 +32,12 @@ frame_rules bytes =
     ∷ []
 
 -- on the order of the entries
-abbrev pub order_rules : List (List ℕ) → List Rule
+abbrev pub order_rules : List (List ℕ) → List (Rule TrustRefusal)
 order_rules entries = (is_some (first_fall entries), NotSorted (unwrap_or (first_fall entries) 0)) ∷ []
 
 -- the refusal of the first rule that the text breaks, or none where it is a trust cache
 unfoldable pub broken : List ℕ → Option TrustRefusal
 broken bytes = first (frame_rules bytes ++ order_rules (cdhashes bytes))
-
--- a result that tries some rules: it is `Ok` where none is broken, and else the first one's refusal
-abbrev pub Tries : {T : Type 0} → List Rule → Result T TrustRefusal → Type 0
-Tries some result = MatchResult result (λ _. first some ≡ None) (λ refusal. first some ≡ Some refusal)
 
 -- The bytes are a trust cache, and these are its entries.
 pub record IsModule (bytes : List ℕ) (entries : List (List ℕ)) : Type 0 where

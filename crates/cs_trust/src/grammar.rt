@@ -6,7 +6,8 @@ ghost use Rattle.pg_bytes.specs.Fields.{le32_at};
 ghost use Rattle.cs_trust.specs.Layout.{size_of, cdhash_at};
 ghost use Rattle.cs_trust.specs.Layout as layout;
 ghost use Rattle.cs_trust.specs.Rules as rules;
-ghost use Rattle.cs_trust.specs.Rules.{Tries, frame_rules, order_rules, IsModule, IsCause};
+ghost use Rattle.pg_bytes.specs.Rules.{Tries};
+ghost use Rattle.cs_trust.specs.Rules.{frame_rules, order_rules, IsModule, IsCause};
 
 use crate::refusal::{NoMemory, TrustFail, TrustRefusal};
 use crate::trust_module::{MAX_ENTRIES, Module};

@@ -3,6 +3,7 @@
 ghost use Rattle.std.specs.Prelude.{◌≡◌};
 ghost use Rattle.cs_trust.specs.declared.refusal.TrustFail.TheVariants as fail;
 
+use cs_policy::{Refusal, TRUST_FAMILY};
 pub use std::alloc::AllocError as NoMemory;
 use thiserror::Error;
 
@@ -44,13 +45,29 @@ impl TrustRefusal {
     }
 
     /// The version or the place that the refusal tells of, or 0 where it has none.
-    pub fn argument(&self) -> u64
+    fn argument(&self) -> u64
         ensures { result ≡ argument_of self.now }
     {
         match self {
             TrustRefusal::Version { v } => *v,
             TrustRefusal::NotSorted { place } => *place,
             TrustRefusal::Short | TrustRefusal::LengthBad | TrustRefusal::TooMany => 0,
+        }
+    }
+}
+
+/// The refusal in numbers, of the family of trust caches.
+impl From<TrustRefusal> for Refusal {
+    ghost use Rattle.cs_trust.specs.Refusals.{refusal_of};
+
+    ghost from_gives = { λ refusal result. result ≡ refusal_of refusal };
+
+    fn from(refusal: TrustRefusal) -> Refusal {
+        Refusal {
+            family: TRUST_FAMILY,
+            number: refusal.number(),
+            a: refusal.argument(),
+            b: 0,
         }
     }
 }

@@ -4,10 +4,8 @@
 //! up. It takes all its memory when it is opened.
 #![tactic(auto)]
 
-mod refused;
 mod trusted;
 
-pub use refused::as_refusal;
 pub use trusted::{MAX_LOADED, NoMemory, Trusted};
 
 #[cfg(test)]

@@ -44,7 +44,7 @@ fn text(alloc: Global, entries: &[[u8; 20]]) -> Result<Vec<u8>, NoMemory> {
 fn declared(alloc: Global, bytes: &[u8]) -> Result<Result<Module, Refusal>, NoMemory> {
     match module(alloc, bytes) {
         Ok(read) => Ok(Ok(read)),
-        Err(TrustFail::Refused(refusal)) => Ok(Err(as_refusal(refusal))),
+        Err(TrustFail::Refused(refusal)) => Ok(Err(Refusal::from(refusal))),
         Err(TrustFail::NoMemory) => Err(NoMemory),
     }
 }

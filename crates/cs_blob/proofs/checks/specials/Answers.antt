@@ -1,6 +1,7 @@
 use Rattle.std.proofs.Common.{arith}
 use Rattle.std.proofs.lemmas.Result.{err_from_is_err_and}
 use Rattle.cs_blob.proofs.RuleFacts.{slots_next, slots_broken, slots_end}
+use Rattle.cs_blob.proofs.DigestFacts.{next_slot}
 use Rattle.cs_blob.proofs.checks.specials.Goals as goal
 
 pub returns-in_err-special-clause-tries : goal.returns-in_err-special-clause-tries
@@ -11,6 +12,7 @@ returns-in_err-special-clause-tries g c =
 pub loop-slot-preserved : goal.loop-slot-preserved
 loop-slot-preserved g c = record {
   kept = slots_next _ c.loop-slot.slot c.loop-slot.invariant.kept (omega arith) (omega arith) c.in_ok-special.ensures.tries;
+  digests = rw (next_slot c.loop-slot.slot) (omega (arith, c.loop-slot.invariant.digests, c.in_ok-special.ensures.digests));
   counted = omega (arith, c.loop-slot.invariant.counted, c.in_ok-special.ensures.counted);
 }
 

@@ -2,7 +2,7 @@ use Rattle.std.proofs.Common.{ℕ, ◌≡◌, ap, Some, subst, ◌∙◌, sym, a
 use Rattle.cs_superblob.specs.Layout.{count}
 use Rattle.cs_superblob.specs.Rules.{repeat_rule}
 use Rattle.cs_superblob.specs.declared.refusal.SuperRefusal.TheVariants.{Twice}
-use Rattle.cs_superblob.proofs.RuleFacts.{KeptBelow, KeptBelow-next, KeptBelow-end, broken_here}
+use Rattle.pg_bytes.proofs.RuleFacts.{KeptBelow, KeptBelow-next, KeptBelow-end, broken_here}
 use Rattle.cs_superblob.proofs.IndexFacts.{length-found, is_repeated-found, slot-found}
 use Rattle.cs_superblob.proofs.grammar.distinct.Goals as goal
 

@@ -2,7 +2,7 @@ use Rattle.std.proofs.Common.{sym, arith}
 use Rattle.std.proofs.lemmas.Result.{err_from_is_err_and}
 use Rattle.std.proofs.lemmas.List.FromFn.{map-range_with_len_more}
 use Rattle.cs_superblob.specs.Layout.{seat_at}
-use Rattle.cs_superblob.proofs.RuleFacts.{KeptBelow-next, broken_here}
+use Rattle.pg_bytes.proofs.RuleFacts.{KeptBelow-next, broken_here}
 use Rattle.cs_superblob.proofs.grammar.placed.Goals as goal
 
 pub returns-in_err-placed_entry-clause-refused : goal.returns-in_err-placed_entry-clause-refused

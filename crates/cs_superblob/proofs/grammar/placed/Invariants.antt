@@ -2,7 +2,7 @@ use Rattle.std.proofs.Common.{◌≡◌, map}
 use Rattle.std.specs.List.{range_with_len}
 use Rattle.cs_superblob.specs.Layout.{count, seat_at}
 use Rattle.cs_superblob.specs.Rules.{place_rule}
-use Rattle.cs_superblob.proofs.RuleFacts.{KeptBelow}
+use Rattle.pg_bytes.proofs.RuleFacts.{KeptBelow}
 use Rattle.cs_superblob.proofs.grammar.placed.Given as goal
 
 abbrev pub invariant-loop-i : goal.invariant-loop-i

@@ -2,7 +2,8 @@ use Rattle.std.proofs.Common.{◌≡◌, length, sym, ap, ◌∙◌, arith}
 use Rattle.std.proofs.lemmas.List.FromFn.{length-map-range_with_len}
 use Rattle.std.proofs.lemmas.Result.{err_from_is_err_and}
 use Rattle.cs_trust.specs.Layout.{cdhash_at}
-use Rattle.cs_trust.specs.Rules.{first, order_rules}
+use Rattle.pg_bytes.specs.Rules.{first}
+use Rattle.cs_trust.specs.Rules.{order_rules}
 use Rattle.cs_trust.proofs.RuleFacts.{broken_by_frame, broken_by_order, cdhashes_are, IsTable-from}
 use Rattle.cs_trust.proofs.grammar.module.Goals as goal
 
