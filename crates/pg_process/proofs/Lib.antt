@@ -1,0 +1,6 @@
+pub mod StepFacts
+pub mod GuardFacts
+pub mod ListFacts
+pub mod OverlapFacts
+pub mod ExitFacts
+pub mod ApartFacts

@@ -1,0 +1,4 @@
+pub mod Regions
+pub mod ProcessStep
+pub mod Kept
+pub mod Laws
