@@ -1,0 +1,3 @@
+pub mod RuleFacts
+pub mod WalkFacts
+pub mod ImageFacts

@@ -1,0 +1,20 @@
+use Rattle.std.proofs.Common.{sym, arith}
+use Rattle.std.proofs.lemmas.Result.{err_from_is_err_and}
+use Rattle.std.proofs.lemmas.List.FromFn.{map-range_with_len_more}
+use Rattle.macho_slices.specs.Layout.{slice_at}
+use Rattle.pg_bytes.proofs.RuleFacts.{KeptBelow-next, broken_here}
+use Rattle.macho_slices.proofs.grammar.placed.Goals as goal
+
+pub returns-in_err-placed_slice-clause-refused : goal.returns-in_err-placed_slice-clause-refused
+returns-in_err-placed_slice-clause-refused c =
+    let exit = err_from_is_err_and c.from_residual-in_err-placed_slice.result c.from_residual-in_err-placed_slice.ensures.1 in
+    let here = c.in_err-placed_slice.ensures in
+    rw (exit.1, exit.2, here.1) (broken_here _ _ _ c.loop-i.invariant.kept (omega arith) here.0)
+
+pub loop-i-preserved : goal.loop-i-preserved
+loop-i-preserved c =
+    let here = c.in_ok-placed_slice.ensures in
+    record {
+      found = rw (c.in_ok-push.ensures.items, c.loop-i.invariant.found, here.1) (sym (map-range_with_len_more (slice_at c.args.width c.args.bytes.now) 0 c.loop-i.i c.loop-i.i (omega arith)));
+      kept = KeptBelow-next _ _ _ c.loop-i.invariant.kept (omega arith) here.0;
+    }
