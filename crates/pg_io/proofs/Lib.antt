@@ -1,2 +1,3 @@
 pub mod FilesFacts
+pub mod PagerFacts
 pub mod SinkFacts

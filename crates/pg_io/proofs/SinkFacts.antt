@@ -29,7 +29,7 @@ length-rest_from at bytes = rw (take_rest bytes at) (length-drop at bytes)
 pub record OutSoFar {K : Type 0} (written : K → Option (List ℕ)) (faults : K → ℕ) (old now : K) (bytes : List ℕ) (at : ℕ) : Type 0 where
   pub in_bytes : at ≤ length bytes
   pub first : written now ≡ append_known (written old) (take at bytes)
-  pub later : faults old ≤ faults now
+  pub sound : faults now ≡ faults old
 
 -- and then the first of the rest
 pub first_grows : (told now next : Option (List ℕ)) (bytes : List ℕ) (at n : ℕ) → now ≡ append_known told (take at bytes) → next ≡ append_known now (take n (rest_from at bytes)) → next ≡ append_known told (take (at + n) bytes)
@@ -40,9 +40,9 @@ first_grows told now next bytes at n first grew =
     ∙ ap (append_known told) (take-rest_from at n bytes)
 
 -- a write in the loop that sent so many of the rest
-pub next_out : {K : Type 0} (written : K → Option (List ℕ)) (faults : K → ℕ) (old now next : K) (bytes : List ℕ) (at n : ℕ) → OutSoFar written faults old now bytes at → n ≤ length (rest_from at bytes) → written next ≡ append_known (written now) (take n (rest_from at bytes)) → faults now ≤ faults next → OutSoFar written faults old next bytes (at + n)
-next_out written faults old now next bytes at n so_far fits grew later = record {
+pub next_out : {K : Type 0} (written : K → Option (List ℕ)) (faults : K → ℕ) (old now next : K) (bytes : List ℕ) (at n : ℕ) → OutSoFar written faults old now bytes at → n ≤ length (rest_from at bytes) → written next ≡ append_known (written now) (take n (rest_from at bytes)) → faults next ≡ faults now → OutSoFar written faults old next bytes (at + n)
+next_out written faults old now next bytes at n so_far fits grew sound = record {
   in_bytes = let l = length-rest_from at bytes in let h = so_far.in_bytes in omega arith;
   first = first_grows (written old) (written now) (written next) bytes at n so_far.first grew;
-  later = let h = so_far.later in omega arith;
+  sound = sound ∙ so_far.sound;
 }

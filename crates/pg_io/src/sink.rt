@@ -23,7 +23,10 @@ pub trait Sink {
 
         // It does not give up by itself: a failure is the outside's, and so is an answer of nothing.
         ensures failed { OnErr result (Rose (faults self.old) (faults self.new)) }
-        ensures nothing { result ≡ Ok 0 → 0 < length bytes.now → Rose (faults self.old) (faults self.new) };
+        ensures nothing { result ≡ Ok 0 → 0 < length bytes.now → Rose (faults self.old) (faults self.new) }
+
+        // Nor does it hide a fault behind bytes that it sent.
+        ensures sound { IfOk result (λ n. 0 < n → faults self.new ≡ faults self.old) };
 }
 
 /// Writes all the bytes, piece after piece.
@@ -35,6 +38,7 @@ pub fn write_whole<K: Sink>(out: &mut K, bytes: &[u8]) -> Result<(), Failed>
     ensures part { OnErr result (SentPart (K.written out.old) (K.written out.new) bytes.now) }
     ensures later { K.faults out.old ≤ K.faults out.new }
     ensures failed { OnErr result (Rose (K.faults out.old) (K.faults out.new)) }
+    ensures sound { OnOk result (K.faults out.new ≡ K.faults out.old) }
 {
     let mut at = 0;
     while at < bytes.len() {

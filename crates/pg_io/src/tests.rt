@@ -1,4 +1,7 @@
-use crate::{DiskFiles, Failed, Files, MemFiles, MemSink, ReadFail, Sink, StdoutSink, write_whole};
+use crate::{
+    DiskFiles, Failed, Files, MemFiles, MemPager, MemSink, PAGE_SIZE, Pager, ReadFail, Sink,
+    StdoutSink, write_whole,
+};
 use std::process::Abort;
 use std::test::Fail;
 use std::{env, fs, process};
@@ -107,6 +110,46 @@ fn the_whole_goes_out_in_pieces(rt: HostRuntime) -> Result<(), Fail> {
     }
     let mut full = MemSink::open(rt.alloc(), 0, vec![in rt.alloc(); 1]?)?;
     assert_eq!(rt; write_whole(&mut full, b""), Ok(()));
+    Ok(())
+}
+
+// A read of one page through the bound: its first and its last byte.
+fn ends_of<P: Pager>(pager: &mut P, page: u64) -> Result<(u8, u8), Failed> {
+    let mut bytes = [9; PAGE_SIZE];
+    if page >= pager.pages() {
+        return Err(Failed);
+    }
+    pager.read_page(page, &mut bytes)?;
+    Ok((bytes[0], bytes[PAGE_SIZE - 1]))
+}
+
+// A write of one page, all of whose bytes are this one.
+fn fill<P: Pager>(pager: &mut P, page: u64, byte: u8) -> Result<(), Failed> {
+    let bytes = [byte; PAGE_SIZE];
+    if page >= pager.pages() {
+        return Err(Failed);
+    }
+    pager.write_page(page, &bytes)
+}
+
+#[test]
+fn memory_holds_whole_pages(rt: HostRuntime) -> Result<(), Fail> {
+    for (length, pages) in [(0, 0), (1, 1), (4096, 1), (4097, 2)] {
+        let pager = MemPager::new(vec![in rt.alloc(); 7; length]?, Vec::new(rt.alloc()))?;
+        assert_eq!(rt; pager.pages(), pages, "{length} bytes");
+        assert_eq!(rt; pager.length(), length as u64);
+    }
+    // Calls 2, 4 and 7 fail; reads and writes are counted together.
+    let fails = vec![in rt.alloc(); 7, 2, 4]?;
+    let mut pager = MemPager::new(vec![in rt.alloc(); 7; 4097]?, fails)?;
+    assert_eq!(rt; ends_of(&mut pager, 1), Ok((7, 0)));
+    assert_eq!(rt; fill(&mut pager, 0, 1), Err(Failed));
+    assert_eq!(rt; ends_of(&mut pager, 0), Ok((7, 7)));
+    assert_eq!(rt; ends_of(&mut pager, 0), Err(Failed));
+    assert_eq!(rt; fill(&mut pager, 1, 5), Ok(()));
+    assert_eq!(rt; ends_of(&mut pager, 1), Ok((5, 5)));
+    assert_eq!(rt; ends_of(&mut pager, 0), Err(Failed));
+    assert_eq!(rt; ends_of(&mut pager, 0), Ok((7, 7)));
     Ok(())
 }
 

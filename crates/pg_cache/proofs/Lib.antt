@@ -1,0 +1,4 @@
+pub mod ContentsFacts
+pub mod HeldFacts
+pub mod SoundFacts
+pub mod StepFacts

@@ -1,0 +1,58 @@
+use Rattle.std.proofs.Common.{◌≡◌, ◌∙◌, ◌<◌, ◌∷◌, ◌-◌, take, ◌+◌, ℕ, List, Bool, true, false, Some, None, refl, ap, sym, subst, rules, arith, is_err, length, vec_len}
+use Rattle.std.specs.Prelude.{IfSome, option_map, slice_get, slice_set, if◌then◌else◌}
+use Rattle.std.proofs.lemmas.Grind.{common_steps}
+use Rattle.std.proofs.lemmas.Option.{slice_get_read}
+use Rattle.pg_io.specs.Pager.{IsRead, IsWrite}
+use Rattle.pg_cache.specs.Held.{Held, clean, find_held, without, changed, dirtied, cleaned, patched}
+use Rattle.pg_cache.specs.Cache.{CacheNow, IsSound, victim}
+use Rattle.pg_cache.specs.Steps.{WritesThrough, Saves}
+use Rattle.pg_cache.specs.Place.{IsAt}
+use Rattle.pg_cache.proofs.HeldFacts.{changed-absent}
+use Rattle.pg_cache.proofs.SoundFacts.{find_at_place, kept_find}
+use Rattle.pg_cache.proofs.StepFacts.{fronted_sound, without_sound, put_sound, entered_sound, read_sound, saved_sound, through_sound, unwritten_sound, written_sound, through_absent, with_held, with_spare, read_as, write_as, saves_dirty, held-saves, leaver_of, stayers_of, count_of, spare_is, at_spare, write_to, evicts_ok}
+use Rattle.pg_cache.specs.Cache.{contents, IsBeside, IsSaved}
+use Rattle.pg_cache.proofs.ContentsFacts.{now_of, now-entered}
+use Rattle.pg_cache.proofs.cache.Cache.enter.Goals as goal
+
+pub invariant_of-self : goal.invariant_of-self
+invariant_of-self g c =
+    let h = c.self.inside.spare in
+    let has : c.self.inside.has_spare ≡ true = search rules in
+    let stands = ap (λ b. if b then Some h else None) has in
+    let long : vec_len c.self.inside.held ≡ length c.self.inside.held.items = search rules in
+    let next = c.next_buffer-buffer.ensures in
+    let stays = stayers_of c.self.inside.held.items c.next_buffer-buffer.new.held.items (vec_len c.self.inside.held) c.self.inside.limit (vec_len c.self.inside.free)
+    long c.self.invariant.count c.self.invariant.sound.some (λ some. (next.free some).1) (λ none. (next.last none).1) in
+    let items : c.insert.new.self.items ≡ h ∷ take (c.self.inside.limit - 1) c.self.inside.held.items = search (rules, stays) in
+    let grew : vec_len c.insert.new.self ≡ length c.next_buffer-buffer.new.held.items + 1 = search rules in
+    record {
+      count = count_of c.self.inside.held.items (vec_len c.self.inside.held) c.self.inside.limit (vec_len c.self.inside.free) (vec_len c.insert.new.self) (vec_len c.next_buffer-buffer.new.free)
+          c.next_buffer-buffer.new.held.items long c.self.invariant.count c.self.invariant.sound.some grew stays (λ some. (next.free some).0) (λ none. (next.last none).0);
+      held_room = search rules;
+      free_room = search rules;
+      sound = with_held _ _ _ _ _ items (entered_sound _ h c.self.invariant.sound stands);
+    }
+
+pub returns-clause-leaver : goal.returns-clause-leaver
+returns-clause-leaver g c =
+    let long : vec_len c.self.inside.held ≡ length c.self.inside.held.items = search rules in
+    let next = c.next_buffer-buffer.ensures in
+    subst (λ (v : CacheNow). c.next_buffer-buffer.result.1 ≡ option_map (λ (held : Held). held.page) (victim v)) c.self.view_is
+    (leaver_of c.self.inside.held.items (vec_len c.self.inside.held) c.self.inside.limit (vec_len c.self.inside.free) c.next_buffer-buffer.result.1
+    long c.self.invariant.count c.self.invariant.sound.some (λ some. (next.free some).2) (λ none. (next.last none).2))
+
+pub returns-clause-contents : goal.returns-clause-contents
+returns-clause-contents g c =
+    let h = c.self.inside.spare in
+    let pager = g.P.Pager.shows c.self.inside.pager in
+    let has : c.self.inside.has_spare ≡ true = search rules in
+    let long : vec_len c.self.inside.held ≡ length c.self.inside.held.items = search rules in
+    let next = c.next_buffer-buffer.ensures in
+    let stays = stayers_of c.self.inside.held.items c.next_buffer-buffer.new.held.items (vec_len c.self.inside.held) c.self.inside.limit (vec_len c.self.inside.free)
+    long c.self.invariant.count c.self.invariant.sound.some (λ some. (next.free some).1) (λ none. (next.last none).1) in
+    let items : c.insert.new.self.items ≡ h ∷ take (c.self.inside.limit - 1) c.self.inside.held.items = search (rules, stays) in
+    let b = subst (λ has. IfSome (if has then Some h else None) (IsBeside pager.pages pager.told c.self.inside.held.items)) has c.self.invariant.sound.beside in
+    let saved = subst (λ (v : CacheNow). IfSome (victim v) (IsSaved v.pager.told)) (sym c.self.view_is) c.requires.saved in
+    ap (λ (l : List Held). now_of l pager.told) items
+    ∙ now-entered pager.pages c.self.inside.held.items c.self.inside.limit h pager.told c.self.invariant.sound.limited c.self.invariant.sound.some b.kept b.is_clean b.absent saved
+    ∙ ap contents c.self.view_is

@@ -1,0 +1,68 @@
+use Rattle.std.proofs.Common.{◌≡◌, ◌∙◌, ◌<◌, ◌∷◌, ◌-◌, take, ◌+◌, ℕ, List, Bool, true, false, Some, None, refl, ap, sym, subst, rules, arith, is_err, length, vec_len}
+use Rattle.std.specs.Prelude.{IfSome, IsSome, Option, slice_get, slice_set, if◌then◌else◌}
+use Rattle.std.proofs.lemmas.Grind.{common_steps}
+use Rattle.std.proofs.lemmas.Option.{slice_get_read}
+use Rattle.pg_io.specs.Pager.{IsRead, IsWrite}
+use Rattle.pg_cache.specs.Held.{Held, clean, find_held, without, changed, dirtied, cleaned, patched}
+use Rattle.pg_cache.specs.Cache.{CacheNow, IsSound, in_spare}
+use Rattle.pg_cache.specs.Steps.{WritesThrough, Saves}
+use Rattle.pg_cache.specs.Place.{IsAt}
+use Rattle.pg_cache.proofs.HeldFacts.{changed-absent}
+use Rattle.pg_cache.proofs.SoundFacts.{find_at_place, kept_find}
+use Rattle.pg_cache.proofs.StepFacts.{fronted_sound, without_sound, put_sound, entered_sound, read_sound, saved_sound, through_sound, unwritten_sound, written_sound, through_absent, with_held, with_spare, read_as, write_as, saves_dirty, held-saves, leaver_of, stayers_of, count_of, spare_is, at_spare, write_to, through_spare, evicts_ok}
+use Rattle.pg_cache.proofs.ContentsFacts.{now_of, length-now, known_of, resident_here, spare_told, spare_here, spare_was, whole_was, map-changed, now-put, now-written, now-written_absent, now-left}
+use Rattle.pg_cache.specs.Cache.{contents, IsBeside, IsSaved}
+use Rattle.pg_cache.specs.Contents.{with_piece}
+use Rattle.std.specs.Prelude.{option_map}
+use Rattle.pg_cache.proofs.cache.Cache.write_spare.Goals as goal
+
+pub invariant_of-self : goal.invariant_of-self
+invariant_of-self g c =
+    let failed = sym c.is_err.ensures.value ∙ c.if-is_err.true in
+    record {
+      count = c.self.invariant.count;
+      held_room = c.self.invariant.held_room;
+      free_room = c.self.invariant.free_room;
+      sound = unwritten_sound _ c.put.new.self.page c.put.new.self.bytes _ c.self.invariant.sound (write_as _ _ _ _ _ _ failed c.write.ensures);
+    }
+
+pub invariant_of-self-2 : goal.invariant_of-self-2
+invariant_of-self-2 g c =
+    let done = sym c.is_err.ensures.value ∙ c.if-is_err.false in
+    let absent = subst (λ (v : CacheNow). find_held v.held c.args.page ≡ None) (sym c.self.view_is) c.requires.absent in
+    let stands = spare_is c.self.inside.has_spare c.self.inside.spare c.args.page (subst (λ (v : CacheNow). IsSome (in_spare v c.args.page)) (sym c.self.view_is) c.requires.there) in
+    let number = ap (λ (h : Held). h.page) c.put.ensures ∙ stands.1 in
+    record {
+      count = c.self.invariant.count;
+      held_room = c.self.invariant.held_room;
+      free_room = c.self.invariant.free_room;
+      sound = through_sound _ c.args.page c.put.new.self.bytes false _ c.self.invariant.sound absent (write_to _ _ _ _ _ _ _ number done c.write.ensures);
+    }
+
+pub returns-clause-writes : goal.returns-clause-writes
+returns-clause-writes g c =
+    let done = sym c.is_err.ensures.value ∙ c.if-is_err.false in
+    let absent = subst (λ (v : CacheNow). find_held v.held c.args.page ≡ None) (sym c.self.view_is) c.requires.absent in
+    let s = c.self.inside.spare in
+    let stands = spare_is c.self.inside.has_spare s c.args.page (subst (λ (v : CacheNow). IsSome (in_spare v c.args.page)) (sym c.self.view_is) c.requires.there) in
+    let number = ap (λ (h : Held). h.page) c.put.ensures ∙ stands.1 in
+    let bytes : c.put.new.self.bytes ≡ patched s.bytes c.args.at c.args.bytes.now = ap (λ (h : Held). h.bytes) c.put.ensures in
+    let write = subst (λ (b : List ℕ). IsWrite (g.P.Pager.shows c.self.inside.pager) c.args.page false b (g.P.Pager.shows c.write.new.pager)) bytes (write_to _ _ c.args.page _ false _ _ number done c.write.ensures) in
+    through_spare c.self.inside.has_spare s _ _ _ c.args.page false c.args.at c.args.bytes.now c.self.view_is refl stands.0 absent write refl
+
+pub returns-clause-contents : goal.returns-clause-contents
+returns-clause-contents g c =
+    let done = sym c.is_err.ensures.value ∙ c.if-is_err.false in
+    let absent = subst (λ (v : CacheNow). find_held v.held c.args.page ≡ None) (sym c.self.view_is) c.requires.absent in
+    let s = c.self.inside.spare in
+    let piece = c.args.bytes.now in
+    let stands = spare_is c.self.inside.has_spare s c.args.page (subst (λ (v : CacheNow). IsSome (in_spare v c.args.page)) (sym c.self.view_is) c.requires.there) in
+    let number = ap (λ (h : Held). h.page) c.put.ensures ∙ stands.1 in
+    let bytes : c.put.new.self.bytes ≡ patched s.bytes c.args.at piece = ap (λ (h : Held). h.bytes) c.put.ensures in
+    let pager = g.P.Pager.shows c.self.inside.pager in
+    let now = g.P.Pager.shows c.write.new.pager in
+    let write = subst (λ (b : List ℕ). IsWrite pager c.args.page false b now) bytes (write_to pager _ c.args.page _ false _ now number done c.write.ensures) in
+    let b = subst (λ has. IfSome (if has then Some s else None) (IsBeside pager.pages pager.told c.self.inside.held.items)) stands.0 c.self.invariant.sound.beside in
+    ap (now_of c.self.inside.held.items) write.told
+    ∙ now-written_absent c.self.inside.held.items pager.told c.args.page c.args.at piece (patched s.bytes c.args.at piece) absent (spare_was pager.told c.args.page c.args.at piece s (spare_told pager.pages pager.told c.args.page s b.kept b.is_clean stands.1))
+    ∙ ap (λ (v : CacheNow). option_map (with_piece c.args.page c.args.at piece) (contents v)) c.self.view_is

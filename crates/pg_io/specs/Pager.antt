@@ -1,0 +1,66 @@
+-- What is known of a file's pages behind a pager.
+use Rattle.std.specs.Prelude.{ℕ, ◌≡◌, List, length, All, Bool, false, MatchBool, Option, Some, IfSome, slice_get, slice_set, if◌then◌else◌}
+use Rattle.std.specs.Option.{option_map}
+use Rattle.pg_bytes.specs.Counts.{Rose}
+use Rattle.pg_io.specs.Calls.{next_count, is_to_fail}
+
+-- how many bytes a page has
+abbrev pub page_size : ℕ
+page_size = 4096
+
+-- what a pager that tells its content shows
+pub record ToldPages : Type 0 where
+  -- the bytes of each page
+  pub holds : List (List ℕ)
+  -- how many calls were made, of reads and writes together
+  pub made : ℕ
+  -- the numbers of the calls that are to fail: the first call is number 1
+  pub fails : List ℕ
+
+-- a pager as it is seen
+pub record PagerNow : Type 0 where
+  -- how many pages there are
+  pub pages : ℕ
+  -- its content, where that is known
+  pub told : Option ToldPages
+  -- how many calls have failed
+  pub faults : ℕ
+  -- how many reads were made
+  pub reads : ℕ
+
+-- the pages that are told are as many as there are, and each is whole
+abbrev pub TellsWhole : PagerNow → Type 0
+TellsWhole pager = IfSome pager.told (λ told. (length told.holds ≡ pager.pages) × All (λ bytes. length bytes ≡ page_size) told.holds)
+
+-- A failed call raises the count of faults, and a call that succeeded leaves it: no fault is hidden.
+abbrev pub FaultsAfter : Bool → ℕ → ℕ → Type 0
+FaultsAfter failed before now = MatchBool failed (Rose before now) (now ≡ before)
+
+-- whether the next call is to fail
+abbrev pub next_fails : ToldPages → Bool
+next_fails told = is_to_fail told.made told.fails
+
+-- what is told after a call that changed no page
+abbrev pub after_call : ToldPages → ToldPages
+after_call told = record told { made = next_count told.made }
+
+-- what is told after this page was written
+abbrev pub with_page : ℕ → List ℕ → ToldPages → ToldPages
+with_page page bytes told = record { holds = slice_set told.holds page bytes; made = next_count told.made; fails = told.fails }
+
+-- One read of a page. Where it succeeded, these are the page's bytes.
+pub record IsRead (old : PagerNow) (page : ℕ) (failed : Bool) (bytes : List ℕ) (new : PagerNow) : Type 0 where
+  pub pages : new.pages ≡ old.pages
+  pub reads : Rose old.reads new.reads
+  pub faults : FaultsAfter failed old.faults new.faults
+  pub outcome : IfSome old.told (λ told. failed ≡ next_fails told)
+  pub content : IfSome old.told (λ told. failed ≡ false → slice_get told.holds page ≡ Some bytes)
+  pub told : new.told ≡ option_map after_call old.told
+
+-- One write of these bytes to a page. Where it failed, the page is as it was.
+pub record IsWrite (old : PagerNow) (page : ℕ) (failed : Bool) (bytes : List ℕ) (new : PagerNow) : Type 0 where
+  pub pages : new.pages ≡ old.pages
+  pub reads : new.reads ≡ old.reads
+  pub faults : FaultsAfter failed old.faults new.faults
+  pub outcome : IfSome old.told (λ told. failed ≡ next_fails told)
+  pub told : new.told ≡ option_map (λ told. if failed then after_call told else with_page page bytes told) old.told

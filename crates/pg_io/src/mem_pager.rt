@@ -1,0 +1,129 @@
+ghost use Rattle.std.specs.Prelude.{◌≡◌, ◌+◌, ◌-◌, ◌<◌, ◌≤◌, ◌++◌, IfOk, IsTrue, is_err, if◌then◌else◌, vec_len, length, take, drop, replicate};
+ghost use Rattle.pg_io.specs.Calls.{next_count, is_to_fail};
+ghost use Rattle.pg_io.specs.Pager.{page_size, FaultsAfter, IsRead, IsWrite};
+ghost use Rattle.pg_io.specs.MemPages.{MemPagerNow, shown, whole_pages};
+ghost use Rattle.pg_io.specs.MemPagesLaws.{shown-TellsWhole};
+
+use crate::NoMemory;
+use crate::calls::Calls;
+use crate::pager::{PAGE_SIZE, Pager};
+use crate::sink::Failed;
+use std::marker::Model;
+
+/// A file's pages in memory, and the numbers of the calls that are to fail.
+#[derive(Drop)]
+pub struct MemPager {
+    bytes: Vec<u8>,
+    length: u64,
+    calls: Calls,
+    faults: u64,
+    reads: u64,
+}
+
+impl Model for MemPager {
+    ghost use Rattle.pg_io.specs.MemPages.{MemPagerNow};
+
+    ghost Value = { MemPagerNow };
+
+    ghost view = { λ pager. record {
+      bytes = pager.bytes.items;
+      length = pager.length;
+      made = pager.calls.made;
+      fails = pager.calls.fails.items;
+      faults = pager.faults;
+      reads = pager.reads;
+    } };
+}
+
+impl MemPager {
+    /// A pager of these bytes, with zeros up to a whole page. The calls whose numbers stand in `fails`
+    /// are to fail: the first call, of reads and writes together, is number 1.
+    pub fn new(bytes: Vec<u8>, fails: Vec<u64>) -> Result<MemPager, NoMemory>
+        ensures { IfOk result (λ pager. pager ≡ record {
+          bytes = whole_pages bytes.items;
+          length = vec_len bytes;
+          made = 0;
+          fails = fails.items;
+          faults = 0;
+          reads = 0;
+        }) }
+    {
+        let length = bytes.len();
+        Ok(MemPager {
+            bytes: padded(bytes)?,
+            length: length as u64,
+            calls: Calls::new(fails),
+            faults: 0,
+            reads: 0,
+        })
+    }
+
+    /// How many bytes the file had, before zeros filled its last page.
+    pub fn length(&self) -> u64
+        ensures { result ≡ self.now.length }
+    {
+        self.length
+    }
+
+    // Counts a call, and says whether it is to fail.
+    fn call_fails(&mut self) -> bool
+        ensures fails { result ≡ is_to_fail self.old.made self.old.fails }
+        ensures faults { FaultsAfter result self.old.faults self.new.faults }
+        ensures counts { self.new ≡ record self.old {
+          made = next_count self.old.made;
+          faults = if result then next_count self.old.faults else self.old.faults;
+        } }
+    {
+        let fails = self.calls.next_fails();
+        self.calls.count();
+        if fails {
+            self.faults = self.faults.saturating_add(1);
+        }
+        fails
+    }
+}
+
+// The bytes, with zeros up to a whole page.
+fn padded(mut bytes: Vec<u8>) -> Result<Vec<u8>, NoMemory>
+    ensures { IfOk result (λ whole. whole.items ≡ whole_pages bytes.items) }
+{
+    let pages = bytes.len().div_ceil(PAGE_SIZE);
+    bytes.resize(pages * PAGE_SIZE, 0)?;
+    Ok(bytes)
+}
+
+// These bytes put at a place among others.
+fn put_at(bytes: &mut [u8], at: usize, from: &[u8])
+    requires { at + length from.now ≤ length bytes.old }
+    ensures { bytes.new ≡ take at bytes.old ++ (from.now ++ drop (at + length from.now) bytes.old) }
+{
+    bytes[at..at + from.len()].copy_from_slice(from);
+}
+
+impl Pager for MemPager {
+    ghost shows = { shown };
+
+    ghost whole = { shown-TellsWhole };
+
+    fn pages(&self) -> u64 {
+        (self.bytes.len() / PAGE_SIZE) as u64
+    }
+
+    fn read_page(&mut self, page: u64, into: &mut [u8]) -> Result<(), Failed> {
+        self.reads = self.reads.saturating_add(1);
+        if self.call_fails() {
+            return Err(Failed);
+        }
+        let at = page as usize * PAGE_SIZE;
+        into.copy_from_slice(&self.bytes[at..at + PAGE_SIZE]);
+        Ok(())
+    }
+
+    fn write_page(&mut self, page: u64, from: &[u8]) -> Result<(), Failed> {
+        if self.call_fails() {
+            return Err(Failed);
+        }
+        put_at(&mut self.bytes, page as usize * PAGE_SIZE, from);
+        Ok(())
+    }
+}

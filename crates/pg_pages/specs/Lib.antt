@@ -1,0 +1,3 @@
+pub mod Pages
+pub use Rattle.pg_cache.specs.Cache
+pub use Rattle.pg_cache.specs.Steps
