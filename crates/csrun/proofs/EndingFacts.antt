@@ -1,6 +1,6 @@
 -- Texts that are read in part, and the one legal history that is printed.
 use Rattle.std.proofs.Common.{◌≡◌, ◌≢◌, ℕ, ◌+◌, ◌-◌, ◌*◌, ◌<◌, ◌≤◌, Bool, true, false, cond, List, [], ◌∷◌, ◌++◌, length, take, drop, map, Option, Some, None, Result, Ok, Err, refl, ap, sym, subst, ◌∙◌, arith, inl, inr}
-use Rattle.std.specs.Prelude.{nat_lt, IfOk, position, slice_set, ◌/◌}
+use Rattle.std.specs.Prelude.{nat_lt, IfOk, OnOk, position, slice_set, ◌/◌}
 use Rattle.std.specs.Str.{bytes_eq}
 use Rattle.std.specs.Io.KnownBytes.{append_known}
 use Rattle.std.specs.List.{list_any}
@@ -8,6 +8,7 @@ use Rattle.std.specs.Option.{option_or}
 use Rattle.std.specs.Result.{result_err}
 use Rattle.std.proofs.lemmas.Bool.{cases_lt, lt-ltb}
 use Rattle.std.proofs.lemmas.List.{take_all, length-take}
+use Rattle.pg_bytes.specs.declared.Status.{Status}
 use Rattle.pg_bytes.specs.declared.Status.TheVariants as status
 use Rattle.cs_directory.specs.Directory.{cdhash}
 use Rattle.pg_io.specs.Files.{Told, GivesFirst, next_read, after_read}
@@ -31,7 +32,7 @@ use Rattle.csrun.specs.Sealing.{IsOpening}
 use Rattle.csrun.specs.Lines.{lines_of}
 use Rattle.csrun.specs.Scene.{Plan, scene_of, plan_of_lines}
 use Rattle.csrun.specs.Journal.{journal}
-use Rattle.csrun.specs.Ending.{Ending, first_misfit, file_misfits, later_misfit, misfit, ending_of, opening, calls_of, history_of, opened_with, opened_file, opened_next, opened_scene, opened, ended, unread, DeniesRightly, DenialsHold, PrintsLegal, RunsLegal}
+use Rattle.csrun.specs.Ending.{Ending, first_misfit, file_misfits, later_misfit, misfit, ending_of, opening, calls_of, history_of, opened_with, opened_file, opened_next, opened_scene, opened, ended, unread, told_after_plan, told_after_scene, IsWorded, Says, DeniesRightly, DenialsHold, PrintsLegal, RunsLegal}
 use Rattle.csrun.proofs.ScriptFacts.{solo-Legal}
 use Rattle.csrun.proofs.SealingFacts.{legal_is_sealed}
 use Rattle.csrun.proofs.UniqueFacts.{Legal-is}
@@ -184,6 +185,15 @@ pub IfOk-then : {T E : Type 0} (r : Result T E) (P Q : T → Type 0) → ((x : T
 IfOk-then (Ok x) P Q more h = more x h
 IfOk-then (Err e) P Q more h = tt
 
+-- the same of a fact that does not name the value
+pub OnOk-then : {T E P Q : Type 0} (r : Result T E) → (P → Q) → OnOk r P → OnOk r Q
+OnOk-then (Ok x) more h = more h
+OnOk-then (Err e) more h = tt
+
+pub OnOk-from : {T E P : Type 0} (r : Result T E) → P → OnOk r P
+OnOk-from (Ok x) h = h
+OnOk-from (Err e) h = tt
+
 -- the scene's file could not be read
 pub file_unread : (hash : Hash) (plan : Plan) (found : Option (List ℕ)) (e : Ending) → found ≡ None → e ≡ unread 1
     → e ≡ ended hash (opened_file hash plan found)
@@ -226,3 +236,23 @@ runs_legal hash words told before now done wrote =
       wrote = wrote ∙ ap (append_known before) same;
       prints = prints_legal hash scene;
     }
+
+-- what the files tell after the scene was read
+pub scene_left : (told : Told) (found : Option (List ℕ)) (text : List ℕ) (now : Option Told) → GivesFirst found 4097 text
+    → now ≡ Some (told_after_plan told (scene_of text)) → now ≡ Some (told_after_scene told found)
+scene_left told found text now gives is =
+    let whole : scene_of text ≡ scene_of gives.whole = ap scene_of gives.given_first ∙ scene_of-take gives.whole in
+    is ∙ ap (λ (said : Result Plan ℕ). Some (told_after_plan told said)) whole
+    ∙ ap (λ (o : Option (List ℕ)). Some (told_after_scene told o)) (sym gives.found_whole)
+
+-- an early end's line is what went out
+pub says_line : (s : Status) (text : List ℕ) (before now : Option (List ℕ)) → IsWorded s text → now ≡ append_known before text → Says s before now
+says_line status.Usage text before now worded wrote = wrote ∙ ap (append_known before) worded
+says_line (status.SceneBad line kind) text before now worded wrote = wrote ∙ ap (append_known before) worded
+says_line (status.FileFault item) text before now worded wrote = wrote ∙ ap (append_known before) worded
+says_line status.Done text before now worded wrote = tt
+says_line status.NotSealed text before now worded wrote = tt
+says_line status.SinkFault text before now worded wrote = tt
+says_line (status.Limit which number) text before now worded wrote = tt
+says_line (status.TrustBad item number arg) text before now worded wrote = tt
+says_line status.NoMemory text before now worded wrote = tt

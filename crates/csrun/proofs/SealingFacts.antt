@@ -38,16 +38,17 @@ content-push bytes (x ∷ before) e = content-push (content_after bytes x.event 
 -- what was admitted stays admitted
 Admitted-push : (hash : Hash) (directory : List ℕ) (before : List Entry) (e : Entry) → Admitted hash directory before → Admitted hash directory (before ++ e ∷ [])
 Admitted-push hash directory before e a = record {
+  front = a.front;
   attaching = a.attaching;
+  later = a.later ++ e ∷ [];
+  whole = ap (λ (xs : List Entry). xs ++ e ∷ []) a.whole ∙ append_assoc a.front (a.attaching ∷ a.later) (e ∷ []);
   finding = a.finding;
   stamps = a.stamps;
   number = a.number;
   place = a.place;
-  is_attached = IsIn-left a.attaching before (e ∷ []) a.is_attached;
   attach_event = a.attach_event;
   attach_reply = a.attach_reply;
-  is_found = IsIn-left a.finding before (e ∷ []) a.is_found;
-  found_stamp = a.found_stamp;
+  is_found = a.is_found;
   found_event = a.found_event;
   found_reply = a.found_reply;
 }
@@ -101,16 +102,17 @@ attached_keeps hash bytes f before e directory wanted read lookup None (Some k) 
 attached_keeps hash bytes f before e directory wanted read lookup None None is answer linked kept =
     let u = unchanged hash bytes f before e kept (ap (λ (v : Event). content_after (content bytes before) v e.reply) is) in
     let own : Admitted hash directory (before ++ e ∷ []) = record {
+      front = before;
       attaching = e;
+      later = [];
+      whole = refl;
       finding = linked.finding;
       stamps = (read, lookup);
       number = length f.blobs;
       place = linked.place;
-      is_attached = IsIn-right e before (e ∷ []) (inl refl);
       attach_event = is ∙ ap (λ (w : List ℕ). event.File (AddBlob directory w read lookup)) linked.same_cdhash;
       attach_reply = answer;
-      is_found = IsIn-left linked.finding before (e ∷ []) linked.is_found.earlier;
-      found_stamp = linked.is_found.by_stamp;
+      is_found = linked.is_found;
       found_event = linked.found_event ∙ ap (λ (w : List ℕ). event.Trust (Lookup w)) linked.same_cdhash;
       found_reply = linked.found_reply;
     } in

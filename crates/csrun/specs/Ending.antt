@@ -160,6 +160,35 @@ ended hash (Ok scene) = record { status = status.Done; text = journal (history_o
 abbrev pub ending_of : Hash → List (List ℕ) → Told → Ending
 ending_of hash words told = ended hash (opened hash words told)
 
+-- what the files tell after the scene's grammar was tried: the scene's file is read where it was kept
+abbrev pub told_after_plan : Told → Result Plan ℕ → Told
+told_after_plan told (Err line) = told
+told_after_plan told (Ok plan) = after_read told
+
+-- the same for what the read of the scene found
+abbrev pub told_after_scene : Told → Option (List ℕ) → Told
+told_after_scene told None = told
+told_after_scene told (Some text) = told_after_plan told (scene_of text)
+
+-- what the files tell after a run: nothing is read but the scene, and then its file
+abbrev pub told_after : List (List ℕ) → Told → Told
+told_after (path ∷ []) told = told_after_scene (after_read told) (next_read told path)
+told_after _ told = told
+
+-- the text that goes with the status of an early end, whatever the files hold
+abbrev pub IsWorded : Status → List ℕ → Type 0
+IsWorded status.Usage text = text ≡ usage.text
+IsWorded (status.SceneBad line kind) text = text ≡ (bad_line line).text
+IsWorded (status.FileFault item) text = text ≡ (unread item).text
+IsWorded other text = Unit {0}
+
+-- where a run ends early, its one line went out
+abbrev pub Says : Status → Option (List ℕ) → Option (List ℕ) → Type 0
+Says status.Usage before now = now ≡ append_known before usage.text
+Says (status.SceneBad line kind) before now = now ≡ append_known before (bad_line line).text
+Says (status.FileFault item) before now = now ≡ append_known before (unread item).text
+Says other before now = Unit {0}
+
 -- The run has this status and this text. Where the sink faults, its text is cut short; where memory runs out,
 -- nothing is written.
 abbrev pub Ends : Ending → Status → Option (List ℕ) → Option (List ℕ) → Type 0

@@ -12,7 +12,7 @@ use Rattle.csrun.specs.Words.{number_word, address_word, bytes_word, byte_word, 
 abbrev pub texts : List (Bor (List ℕ)) → List (List ℕ)
 texts borrowed = map (λ text. text.now) borrowed
 
--- no part behind the last separator, where nothing stands there
+-- the parts, without the last one where that is empty
 abbrev pub without_empty_end : List (List ℕ) → List (List ℕ)
 without_empty_end [] = []
 without_empty_end (last ∷ []) = if length last == 0 then [] else last ∷ []
@@ -26,11 +26,12 @@ lines_of text = without_empty_end (slice_split (λ b. b == 10) text)
 unfoldable pub words_of : List ℕ → List (List ℕ)
 words_of line = slice_split (λ b. b == 32) line
 
+-- the second step, where the first one says something
 infixl 10 ◌>>=◌
 abbrev pub ◌>>=◌ : {A B : Type 0} → Option A → (A → Option B) → Option B
 o >>= f = option_and_then f o
 
--- a fixed line
+-- a line that is this text
 abbrev pub fixed_line : List ℕ → List ℕ → Option (Unit {0})
 fixed_line text line = if bytes_eq line text then Some tt else None
 
@@ -108,12 +109,15 @@ fault_words pages (name ∷ process ∷ addr ∷ access ∷ []) =
     else None
 fault_words pages _ = None
 
+-- the line on the file
 abbrev pub raw_line : List ℕ → Option RawLine
 raw_line line = raw_words (words_of line)
 
+-- the line on the trust list
 abbrev pub admit_line : List ℕ → Option (List ℕ)
 admit_line line = admit_words (words_of line)
 
+-- the line on the mapping
 abbrev pub map_line : List ℕ → Option ℕ
 map_line line = map_words (words_of line)
 

@@ -20,12 +20,13 @@ pub record Plan : Type 0 where
   -- the lines behind the file's attachment
   pub touches : List Touch
 
+-- the second step, where the first one tells of no bad line
 infixl 10 ◌>>=◌
 abbrev pub ◌>>=◌ : {A B : Type 0} → Result A ℕ → (A → Result B ℕ) → Result B ℕ
 (Ok x) >>= f = f x
 (Err line) >>= f = Err line
 
--- what the line with this number, counted from 1, says in its form, or its number
+-- what the line with this number, counted from 1, says, or the number where the line is missing or not of the form
 abbrev pub line : {A : Type 0} → ℕ → (List ℕ → Option A) → List (List ℕ) → Result A ℕ
 line number form lines = ok_or (option_and_then form (slice_get lines (number - 1))) number
 

@@ -17,6 +17,7 @@ use Rattle.csrun.specs.declared.region.Record.{Record}
 use Rattle.csrun.specs.Machine.{Machine}
 use Rattle.csrun.specs.Steps.{Hash, covers, within, digest_of}
 use Rattle.csrun.specs.Calls.{replay}
+use Rattle.csrun.specs.Legal.{IsNamed}
 
 -- the content after one event and its reply: a write that was made puts its byte
 abbrev pub content_after : List ℕ → Event → Reply → List ℕ
@@ -36,18 +37,20 @@ pub record Sealed (hash : Hash) (directory : List ℕ) (page : ℕ) (bytes : Lis
   pub whole : within directory page ≡ true
   pub matches : digest_of hash directory bytes ≡ slot_at directory page
 
--- the code directory was attached in this history, after its cdhash was found in the trust list
+-- The code directory was attached in this history, after the same call had found its cdhash in the trust list.
 pub record Admitted (hash : Hash) (directory : List ℕ) (history : List Entry) : Type 0 where
+  -- what stands before the attachment, and after it
+  pub front : List Entry
   pub attaching : Entry
+  pub later : List Entry
+  pub whole : history ≡ front ++ attaching ∷ later
   pub finding : Entry
   pub stamps : ℕ × ℕ
   pub number : ℕ
   pub place : ℕ × ℕ
-  pub is_attached : IsIn attaching history
   pub attach_event : attaching.event ≡ event.File (AddBlob directory (cdhash hash directory) stamps.0 stamps.1)
   pub attach_reply : attaching.reply ≡ reply.File (file.Attached number)
-  pub is_found : IsIn finding history
-  pub found_stamp : finding.stamp ≡ stamps.1
+  pub is_found : IsNamed front attaching finding stamps.1
   pub found_event : finding.event ≡ event.Trust (Lookup (cdhash hash directory))
   pub found_reply : finding.reply ≡ reply.Trust (Listed place.0 place.1)
 

@@ -1,12 +1,12 @@
 //! How a run ends: everything that it does before it writes.
 
-ghost use Rattle.std.specs.Prelude.{◌≡◌, ◌≢◌, ◌+◌, ◌≤◌, ◌<◌, ◌↔◌, ℕ, map, length, Some, IfOk, string_bytes};
+ghost use Rattle.std.specs.Prelude.{◌≡◌, ◌≢◌, ◌+◌, ◌≤◌, ◌<◌, ◌↔◌, ℕ, map, length, Some, IfOk, OnOk, string_bytes};
 ghost use Rattle.pg_bytes.specs.Counts.{Rose};
 ghost use Rattle.pg_digest.specs.Digests.{sha_hash};
-ghost use Rattle.pg_io.specs.Files.{Told, next_read};
+ghost use Rattle.pg_io.specs.Files.{Told, next_read, after_read};
 ghost use Rattle.csrun.specs.Scene.{plan_of, scene_of};
 ghost use Rattle.csrun.specs.Ending as endings;
-ghost use Rattle.csrun.specs.Ending.{signature_in, ended, opened_file, opened_next, opened_scene, ending_of, IsCaused};
+ghost use Rattle.csrun.specs.Ending.{signature_in, ended, opened_file, opened_next, opened_scene, ending_of, told_after_plan, told_after_scene, told_after, IsCaused, IsWorded};
 ghost use Rattle.cs_directory.specs.Directory.{IsDirectory};
 ghost use Rattle.csrun.specs.EndingView.{ending_in};
 
@@ -118,7 +118,8 @@ fn play(
 #[tactic(auto, using(crate::proofs::EndingFacts::run_by_misfit))]
 fn after_file(alloc: Global, scene: &Scene, bytes: Vec<u8>) -> Result<Plain, AllocError>
     requires { length scene.now.touches.items ≤ 4096 }
-    ensures { IfOk result (λ p. ending_in p ≡ ended sha_hash (opened_file sha_hash (plan_of scene.now) (Some bytes.items))) }
+    ensures ended { IfOk result (λ p. ending_in p ≡ ended sha_hash (opened_file sha_hash (plan_of scene.now) (Some bytes.items))) }
+    ensures worded { IfOk result (λ p. IsWorded p.status (string_bytes p.text)) }
 {
     let mut digester = ShaDigester::new();
     match fit(&mut digester, scene, &bytes) {
@@ -132,7 +133,9 @@ fn after_scene<F: Files>(alloc: Global, files: &mut F, scene: &Scene) -> Result<
     requires { length scene.now.touches.items ≤ 4096 }
     ensures told { (told : Told) → F.tells files.old ≡ Some told →
         IfOk result (λ p. ending_in p ≡ ended sha_hash (opened_file sha_hash (plan_of scene.now) (next_read told (plan_of scene.now).path))) }
+    ensures read { (told : Told) → F.tells files.old ≡ Some told → OnOk result (F.tells files.new ≡ Some (after_read told)) }
     ensures cause { IfOk result (λ p. IsCaused 1 (F.faults files.old) (F.faults files.new) p.status) }
+    ensures worded { IfOk result (λ p. IsWorded p.status (string_bytes p.text)) }
     ensures later { F.faults files.old ≤ F.faults files.new }
 {
     match files.read(alloc, &scene.path, MOST_OF_FILE) {
@@ -146,7 +149,9 @@ fn after_scene<F: Files>(alloc: Global, files: &mut F, scene: &Scene) -> Result<
 fn after_text<F: Files>(alloc: Global, files: &mut F, text: &[u8]) -> Result<Plain, AllocError>
     ensures told { (told : Told) → F.tells files.old ≡ Some told →
         IfOk result (λ p. ending_in p ≡ ended sha_hash (opened_next sha_hash told (scene_of text.now))) }
+    ensures read { (told : Told) → F.tells files.old ≡ Some told → OnOk result (F.tells files.new ≡ Some (told_after_plan told (scene_of text.now))) }
     ensures cause { IfOk result (λ p. IsCaused 1 (F.faults files.old) (F.faults files.new) p.status) }
+    ensures worded { IfOk result (λ p. IsWorded p.status (string_bytes p.text)) }
     ensures later { F.faults files.old ≤ F.faults files.new }
 {
     match read_scene(alloc, text) {
@@ -160,7 +165,10 @@ fn after_text<F: Files>(alloc: Global, files: &mut F, text: &[u8]) -> Result<Pla
 fn after_path<F: Files>(alloc: Global, files: &mut F, path: &str) -> Result<Plain, AllocError>
     ensures told { (told : Told) → F.tells files.old ≡ Some told →
         IfOk result (λ p. ending_in p ≡ ended sha_hash (opened_scene sha_hash told (next_read told path.now))) }
+    ensures read { (told : Told) → F.tells files.old ≡ Some told →
+        OnOk result (F.tells files.new ≡ Some (told_after_scene (after_read told) (next_read told path.now))) }
     ensures cause { IfOk result (λ p. IsCaused 1 (F.faults files.old) (F.faults files.new) p.status) }
+    ensures worded { IfOk result (λ p. IsWorded p.status (string_bytes p.text)) }
 {
     match files.read(alloc, path, MOST_OF_SCENE) {
         Err(ReadFail::NoMemory) => Err(AllocError),
@@ -173,7 +181,11 @@ fn after_path<F: Files>(alloc: Global, files: &mut F, path: &str) -> Result<Plai
 pub fn ending<F: Files>(alloc: Global, words: &[String], files: &mut F) -> Result<Plain, AllocError>
     ensures told { (told : Told) → F.tells files.old ≡ Some told →
         IfOk result (λ p. ending_in p ≡ ending_of sha_hash (map string_bytes words.now) told) }
+    ensures read { (told : Told) → F.tells files.old ≡ Some told →
+        OnOk result (F.tells files.new ≡ Some (told_after (map string_bytes words.now) told)) }
+    ensures quiet { length words.now ≢ 1 → files.new ≡ files.old }
     ensures cause { IfOk result (λ p. IsCaused (length words.now) (F.faults files.old) (F.faults files.new) p.status) }
+    ensures worded { IfOk result (λ p. IsWorded p.status (string_bytes p.text)) }
 {
     match words {
         [path] => after_path(alloc, files, path),

@@ -23,17 +23,23 @@ use pg_bytes::{Status, code};
 use pg_io::{DiskFiles, StdoutSink};
 use std::alloc::AllocError;
 use std::env;
+use std::io::ErrorKind;
 use std::process::ExitCode;
 use std::rt::Env;
 pub use top::csrun_main;
 
-/// The words of the command line without the program's name; none where the system does not give them.
+/// The words of the command line without the program's name; none where one of them is no text. Want of memory is
+/// the only error.
 fn command_line(rt: &(impl Env + AllocGlobal)) -> Result<Vec<String>, AllocError> {
     let mut words = Vec::new(rt.alloc());
-    if let Ok(args) = env::args(rt) {
-        for word in args.skip(1) {
-            words.push(word)?;
+    match env::args(rt) {
+        Ok(args) => {
+            for word in args.skip(1) {
+                words.push(word)?;
+            }
         }
+        Err(e) if e.kind() == ErrorKind::OutOfMemory => return Err(AllocError),
+        Err(_) => {}
     }
     Ok(words)
 }

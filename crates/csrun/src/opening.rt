@@ -31,14 +31,16 @@ fn part<'a>(bytes: &'a [u8], range: &Range) -> Option<&'a [u8]>
     Some(&rest[..range.len as usize])
 }
 
-/// The code directory of a file that the scene's line on it fits, or `None` where it does not.
-fn fitting_directory(scene: &Scene, bytes: &[u8]) -> Option<Directory>
+/// The code directory of a file that the scene's line on it fits, with the signature's bytes, or `None` where it
+/// does not.
+fn fitting_directory<'a>(scene: &Scene, bytes: &'a [u8]) -> Option<(Directory, &'a [u8])>
     ensures none { IfNone result (first_misfit (file_misfits (plan_of scene.now) bytes.now) ≡ Some 2) }
-    ensures fits { IfSome result (λ d. first_misfit (file_misfits (plan_of scene.now) bytes.now) ≡ None) }
-    ensures directory { IfSome result (λ d. IsDirectory (signature_in (plan_of scene.now) bytes.now) d) }
-    ensures limited { IfSome result (λ d. d.limit ≤ length bytes.now) }
-    ensures few { IfSome result (λ d. length bytes.now ≤ 1048576) }
-    ensures inside { IfSome result (λ d. scene.now.signature.at + scene.now.signature.len ≤ length bytes.now) }
+    ensures fits { IfSome result (λ found. first_misfit (file_misfits (plan_of scene.now) bytes.now) ≡ None) }
+    ensures directory { IfSome result (λ found. IsDirectory (signature_in (plan_of scene.now) bytes.now) found.0) }
+    ensures signature { IfSome result (λ found. found.1.now ≡ signature_in (plan_of scene.now) bytes.now) }
+    ensures limited { IfSome result (λ found. found.0.limit ≤ length bytes.now) }
+    ensures few { IfSome result (λ found. length bytes.now ≤ 1048576) }
+    ensures inside { IfSome result (λ found. scene.now.signature.at + scene.now.signature.len ≤ length bytes.now) }
 {
     if bytes.len() > MOST_FILE {
         return None;
@@ -48,7 +50,7 @@ fn fitting_directory(scene: &Scene, bytes: &[u8]) -> Option<Directory>
     if directory.special_slots() != 0 || directory.limit() > bytes.len() as u64 {
         return None;
     }
-    Some(directory)
+    Some((directory, signature))
 }
 
 /// Whether the line writes past the end of a file of so many bytes.
@@ -79,10 +81,7 @@ pub fn fit(digester: &mut ShaDigester, scene: &Scene, bytes: &[u8]) -> Result<Di
     ensures few { IfOk result (λ d. length bytes.now ≤ 1048576) }
     ensures inside { IfOk result (λ d. scene.now.signature.at + scene.now.signature.len ≤ length bytes.now) }
 {
-    let Some(directory) = fitting_directory(scene, bytes) else {
-        return Err(2);
-    };
-    let Some(signature) = part(bytes, &scene.signature) else {
+    let Some((directory, signature)) = fitting_directory(scene, bytes) else {
         return Err(2);
     };
     if directory.cdhash(signature, digester) != scene.admitted {

@@ -1,8 +1,8 @@
 //! The scene: one signed file, one enforced process, one script; and how its text is read.
 
-ghost use Rattle.std.specs.Prelude.{◌≡◌, ◌+◌, ◌-◌, ◌<◌, ◌≤◌, ◌^◌, length, drop, slice_get, ok_or, vec_len, IfOk};
+ghost use Rattle.std.specs.Prelude.{◌≡◌, ◌-◌, ◌<◌, ◌≤◌, ◌^◌, length, drop, slice_get, ok_or, vec_len, IfOk};
 ghost use Rattle.csrun.specs.Lines.{texts, fixed_line, raw_line, admit_line, map_line, raw_of};
-ghost use Rattle.csrun.specs.Scene.{line, touches_from, plan_of_lines, scene_of, Gives, Reads, plan_of};
+ghost use Rattle.csrun.specs.Scene.{line, touches_from, plan_of_lines, scene_of, Gives, Reads};
 ghost use Rattle.csrun.specs.declared.scene.SceneFail.TheVariants.{NoMemory};
 
 use crate::lines::{

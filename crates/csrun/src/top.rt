@@ -5,7 +5,7 @@ ghost use Rattle.std.specs.Io.KnownBytes.{append_known};
 ghost use Rattle.pg_bytes.specs.Counts.{Rose};
 ghost use Rattle.pg_digest.specs.Digests.{sha_hash};
 ghost use Rattle.pg_io.specs.Files.{Told};
-ghost use Rattle.csrun.specs.Ending.{ending_of, Ends, RunsLegal};
+ghost use Rattle.csrun.specs.Ending.{ending_of, told_after, Ends, Says, RunsLegal};
 
 use crate::ending::ending;
 use pg_bytes::Status;
@@ -34,6 +34,15 @@ pub fn csrun_main<F: Files, K: Sink>(
     ensures other_words { length words.now ≢ 1 → (result ≡ Status.Usage) ⊎ ((result ≡ Status.SinkFault) ⊎ (result ≡ Status.NoMemory)) }
     ensures bad_line { (line kind : ℕ) → result ≡ Status.SceneBad line kind → kind ≡ 9 }
     ensures read_fault { (item : ℕ) → result ≡ Status.FileFault item → (item ≤ 1) × Rose (F.faults files.old) (F.faults files.new) }
+    ensures early_text { Says result (K.written out.old) (K.written out.new) }
+
+    // Nothing is read but the scene and then its file, and for other words nothing at all.
+    ensures reads { (told : Told) → F.tells files.old ≡ Some told → result ≢ Status.NoMemory →
+        F.tells files.new ≡ Some (told_after (map string_bytes words.now) told) }
+    ensures quiet { length words.now ≢ 1 → files.new ≡ files.old }
+
+    // A fault of the sink ends the run with its status and no other.
+    ensures sound { result ≢ Status.SinkFault → K.faults out.new ≡ K.faults out.old }
     ensures sink_fault { result ≡ Status.SinkFault → Rose (K.faults out.old) (K.faults out.new) }
     ensures not_sealed { result ≢ Status.NotSealed }
     ensures no_limit { (which : _) (number : ℕ) → result ≢ Status.Limit which number }

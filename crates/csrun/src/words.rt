@@ -4,7 +4,7 @@ ghost use Rattle.std.specs.Prelude.{◌≡◌, ◌≤◌, ◌^◌, option_copied
 ghost use Rattle.std.specs.List.{list_all};
 ghost use Rattle.std.specs.Char.{is_ascii_digit, is_ascii_graphic};
 ghost use Rattle.std.specs.Str.Parse.{IsNumeral, digits_value};
-ghost use Rattle.csrun.specs.Words.{is_lower_hex, has_lead, is_numeral, below, number_word, hex_number, address_word, bytes_word, byte_word, path_word};
+ghost use Rattle.csrun.specs.Words.{is_lower_hex, has_lead, below, number_word, hex_number, address_word, bytes_word, byte_word, path_word};
 
 use hex::FromHex;
 use std::str;
