@@ -1,12 +1,12 @@
 -- What the pages hold after each step.
-use Rattle.std.proofs.Common.{◌≡◌, ◌≢◌, ℕ, zero, suc, ◌+◌, ◌-◌, ◌<◌, ◌≤◌, ◌==◌, List, [], ◌∷◌, ◌++◌, length, take, drop, get_or, Bool, true, false, Some, None, refl, ap, sym, subst, ◌∙◌, arith, append-nil, drop_of_length-le, map}
-use Rattle.std.specs.Prelude.{Option, IfSome, All, slice_get, slice_set, if◌then◌else◌}
+use Rattle.std.proofs.Common.{◌≡◌, ◌≢◌, ℕ, zero, suc, ◌+◌, ◌-◌, ◌<◌, ◌≤◌, ◌==◌, List, [], ◌∷◌, ◌++◌, length, take, get_or, Bool, true, false, Some, None, refl, ap, sym, subst, ◌∙◌, arith, append-nil, drop_of_length-le, map}
+use Rattle.std.specs.Prelude.{Option, IfSome, slice_get, slice_set, if◌then◌else◌}
 use Rattle.std.specs.Option.{option_map}
 use Rattle.std.proofs.lemmas.Grind.{common_steps}
 use Rattle.std.proofs.lemmas.Option.{slice_get_within, get_or_from_slice_get, slice_get-get_or}
 use Rattle.pg_io.specs.Pager.{PagerNow, ToldPages, TellsWhole, after_call, with_page, page_size}
-use Rattle.pg_cache.specs.Held.{Held, clean, find_held, without, changed, patched, dirtied, cleaned}
-use Rattle.pg_cache.specs.Cache.{CacheNow, IsKept, AreKept, IsSaved}
+use Rattle.pg_cache.specs.Held.{Held, find_held, without, changed, patched, dirtied, cleaned}
+use Rattle.pg_cache.specs.Cache.{IsKept, AreKept, IsSaved}
 use Rattle.pg_cache.specs.Contents.{bytes_or, overlaid, with_piece}
 use Rattle.pg_cache.proofs.HeldFacts.{found_page, find-without, find-changed, find-changed_same}
 use Rattle.pg_cache.proofs.SoundFacts.{told_written, gone_without}

@@ -1,14 +1,12 @@
 -- Why each step keeps what is true of every cache.
-use Rattle.std.proofs.Common.{◌≡◌, ◌≢◌, ℕ, zero, suc, ◌+◌, ◌-◌, ◌<◌, ◌≤◌, ◌==◌, List, [], ◌∷◌, length, take, get_or, Bool, true, false, Some, None, refl, ap, sym, subst, ◌∙◌, arith}
-use Rattle.std.specs.Prelude.{Option, IfSome, MatchOption, slice_get, slice_set, if◌then◌else◌}
+use Rattle.std.proofs.Common.{◌≡◌, ◌≢◌, ℕ, zero, suc, ◌+◌, ◌<◌, ◌==◌, List, [], ◌∷◌, length, take, Bool, true, false, Some, None, refl, ap, sym, subst, ◌∙◌, arith}
+use Rattle.std.specs.Prelude.{Option, slice_get, slice_set, if◌then◌else◌}
 use Rattle.std.specs.Option.{option_map}
 use Rattle.std.proofs.lemmas.Grind.{common_steps}
-use Rattle.std.proofs.lemmas.List.{length-take}
-use Rattle.pg_io.specs.Pager.{PagerNow, ToldPages, TellsWhole, IsRead, IsWrite, after_call, with_page}
-use Rattle.pg_cache.specs.Held.{Held, clean, find_held, without, changed, dirtied, cleaned}
-use Rattle.pg_cache.specs.Cache.{CacheNow, IsKept, AreKept, IsBeside, IsSound}
-use Rattle.pg_cache.specs.Steps.{ReadsSpare, WritesBack}
-use Rattle.pg_cache.proofs.HeldFacts.{found_page, absent-without, absent-take, absent-changed, find-without}
+use Rattle.pg_io.specs.Pager.{ToldPages, after_call, with_page}
+use Rattle.pg_cache.specs.Held.{Held, find_held, without, changed}
+use Rattle.pg_cache.specs.Cache.{IsKept, AreKept}
+use Rattle.pg_cache.proofs.HeldFacts.{found_page, absent-without, absent-take, absent-changed}
 
 -- ---- lists of kept pages
 

@@ -1,5 +1,5 @@
 -- Each step leaves a cache of which the same is true as before.
-use Rattle.std.proofs.Common.{◌≡◌, ◌≢◌, ℕ, zero, suc, ◌+◌, ◌-◌, ◌<◌, ◌≤◌, ◌==◌, List, [], ◌∷◌, length, take, Bool, true, false, Some, None, refl, ap, sym, subst, ◌∙◌, arith, rules}
+use Rattle.std.proofs.Common.{◌≡◌, ◌≢◌, ℕ, zero, suc, ◌+◌, ◌-◌, ◌<◌, ◌==◌, List, [], ◌∷◌, length, take, Bool, true, false, Some, None, refl, ap, sym, subst, ◌∙◌, arith, rules}
 use Rattle.std.specs.Prelude.{Option, IfSome, IsSome, MatchOption, MatchBool, Ok, Result, is_some, slice_get, slice_set, if◌then◌else◌}
 use Rattle.std.specs.Option.{option_map}
 use Rattle.std.proofs.lemmas.Grind.{common_steps}
@@ -9,7 +9,7 @@ use Rattle.pg_cache.specs.Steps.{Saves, WritesBack, WritesThrough, Evicts, Leave
 use Rattle.pg_cache.specs.declared.fault.PagerFault.{PagerFault}
 use Rattle.pg_io.specs.Pager.{PagerNow, ToldPages, TellsWhole, IsRead, IsWrite, after_call, with_page}
 use Rattle.pg_cache.specs.Held.{Held, clean, find_held, without, fronted, fronted_by, changed, patched, dirtied, cleaned}
-use Rattle.pg_cache.specs.Cache.{CacheNow, IsKept, AreKept, IsBeside, IsSound, spare_of}
+use Rattle.pg_cache.specs.Cache.{CacheNow, AreKept, IsBeside, IsSound, spare_of}
 use Rattle.pg_cache.proofs.HeldFacts.{found_page, changed-absent, absent-without, absent-take, absent-changed}
 use Rattle.pg_cache.proofs.SoundFacts.{kept_map, kept_find, kept_without, gone_without, kept_take, kept_changed, length-without, length-changed, absent_front, told_written, kept_called, kept_written, kept_absent_written, kept_dirty, kept_saved, get-set_same}
 

@@ -1,5 +1,5 @@
 -- A page cache as it is seen: which pages are resident, and what every page holds now.
-use Rattle.std.specs.Prelude.{ℕ, ◌≡◌, ◌-◌, ◌<◌, ◌≤◌, ◌==◌, List, [], ◌∷◌, length, take, map, filter, false, Option, Some, None, IfSome, slice_get, if◌then◌else◌}
+use Rattle.std.specs.Prelude.{ℕ, ◌≡◌, ◌-◌, ◌<◌, ◌≤◌, ◌==◌, List, [], ◌∷◌, length, map, filter, false, Option, Some, None, IfSome, slice_get, if◌then◌else◌}
 use Rattle.std.specs.Option.{option_map}
 use Rattle.pg_io.specs.Pager.{PagerNow, ToldPages}
 use Rattle.pg_cache.specs.Held.{Held, find_held}

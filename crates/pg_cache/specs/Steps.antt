@@ -1,10 +1,10 @@
 -- What each call of a cache does: which pager calls it makes, and what stands afterwards.
-use Rattle.std.specs.Prelude.{ℕ, ◌≡◌, ◌-◌, ◌≤◌, List, ◌∷◌, length, take, Bool, true, false, MatchBool, Option, Some, None, MatchOption, IfSome, Result, Ok, Err, IfOk, IfErr, nat_le, slice_get, is_err, if◌then◌else◌}
+use Rattle.std.specs.Prelude.{ℕ, ◌≡◌, ◌-◌, List, ◌∷◌, length, take, Bool, true, false, MatchBool, Option, Some, None, MatchOption, IfSome, Result, Ok, Err, IfOk, IfErr, nat_le, slice_get, is_err, if◌then◌else◌}
 use Rattle.std.specs.Option.{option_map}
 use Rattle.pg_io.specs.Pager.{page_size, FaultsAfter, IsRead, IsWrite}
-use Rattle.pg_cache.specs.Held.{Held, clean, find_held, without, changed, fronted, patched, dirtied, cleaned}
+use Rattle.pg_cache.specs.Held.{Held, clean, without, changed, fronted, patched, cleaned}
 use Rattle.pg_cache.specs.Cache.{CacheNow, resident_page, in_spare, at_hand, victim, contents}
-use denote.Ref.{Bor}
+use Rattle.std.specs.Borrow.{Bor}
 use Rattle.pg_cache.specs.declared.fault.PagerFault.{PagerFault}
 
 -- One read of a page into the spare buffer. Where it failed, nothing stands there.

@@ -1,9 +1,7 @@
 -- A page cache with a digester, and the check of a page against a digest.
-use Rattle.std.specs.Prelude.{ℕ, ◌≡◌, ◌≢◌, List, length, Option, Some, IfOk, IfErr, Result, Ok, Err, is_err}
+use Rattle.std.specs.Prelude.{ℕ, ◌≡◌, ◌≢◌, List, Option, Some}
 use Rattle.std.specs.Option.{option_map}
-use Rattle.pg_bytes.specs.Counts.{Rose}
 use Rattle.pg_cache.specs.Cache.{CacheNow, at_hand}
-use Rattle.pg_cache.specs.declared.fault.PagerFault.{PagerFault}
 use Rattle.pg_pages.specs.declared.check.Check.{Check}
 use Rattle.pg_pages.specs.declared.check.Check.TheVariants.{Sealed, NotSealed}
 

@@ -1,17 +1,11 @@
-use Rattle.std.proofs.Common.{◌≡◌, ◌∙◌, ◌<◌, ◌∷◌, ◌-◌, take, ℕ, List, Bool, true, false, Some, None, refl, ap, sym, subst, rules, arith, is_err, length, vec_len}
-use Rattle.std.specs.Prelude.{IfSome, slice_get, slice_set, if◌then◌else◌}
-use Rattle.std.proofs.lemmas.Grind.{common_steps}
-use Rattle.std.proofs.lemmas.Option.{slice_get_read}
-use Rattle.pg_io.specs.Pager.{IsRead, IsWrite}
-use Rattle.pg_cache.specs.Held.{Held, clean, find_held, without, changed, dirtied, cleaned, patched}
-use Rattle.pg_cache.specs.Cache.{CacheNow, IsSound}
-use Rattle.pg_cache.specs.Steps.{WritesThrough, Saves}
+use Rattle.std.proofs.Common.{◌∙◌, List, refl, ap, sym, subst}
+use Rattle.std.specs.Prelude.{slice_set}
+use Rattle.pg_cache.specs.Held.{Held, dirtied}
+use Rattle.pg_cache.specs.Cache.{CacheNow}
 use Rattle.pg_cache.specs.Place.{IsAt}
-use Rattle.pg_cache.proofs.HeldFacts.{changed-absent}
-use Rattle.pg_cache.proofs.SoundFacts.{find_at_place, kept_find}
-use Rattle.pg_cache.proofs.StepFacts.{fronted_sound, without_sound, put_sound, entered_sound, read_sound, saved_sound, through_sound, unwritten_sound, written_sound, through_absent, with_held, with_spare, read_as, write_as, saves_dirty, held-saves, leaver_of, stayers_of}
-use Rattle.pg_cache.proofs.ContentsFacts.{now_of, length-now, known_of, resident_here, spare_told, spare_here, spare_was, whole_was, map-changed, now-put, now-written, now-written_absent, now-left}
-use Rattle.pg_cache.specs.Cache.{contents, IsBeside, IsSaved}
+use Rattle.pg_cache.proofs.StepFacts.{put_sound, with_held}
+use Rattle.pg_cache.proofs.ContentsFacts.{now_of, map-changed, now-put}
+use Rattle.pg_cache.specs.Cache.{contents}
 use Rattle.pg_cache.specs.Contents.{with_piece}
 use Rattle.std.specs.Prelude.{map, option_map}
 use Rattle.pg_cache.proofs.cache.Cache.put.Goals as goal

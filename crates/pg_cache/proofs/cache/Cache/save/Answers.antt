@@ -1,15 +1,10 @@
-use Rattle.std.proofs.Common.{◌≡◌, ◌∙◌, ◌<◌, ◌∷◌, ◌-◌, take, ℕ, List, Bool, true, false, Some, None, refl, ap, sym, subst, rules, arith, is_err, length, vec_len}
-use Rattle.std.specs.Prelude.{IfSome, slice_get, slice_set, if◌then◌else◌}
-use Rattle.std.proofs.lemmas.Grind.{common_steps}
+use Rattle.std.proofs.Common.{◌≡◌, ◌∙◌, ◌<◌, true, false, refl, ap, sym, subst, rules, length}
+use Rattle.std.specs.Prelude.{IfSome, slice_get}
 use Rattle.std.proofs.lemmas.Option.{slice_get_read}
-use Rattle.pg_io.specs.Pager.{IsRead, IsWrite}
-use Rattle.pg_cache.specs.Held.{Held, clean, find_held, without, changed, dirtied, cleaned, patched}
-use Rattle.pg_cache.specs.Cache.{CacheNow, IsSound}
-use Rattle.pg_cache.specs.Steps.{WritesThrough, Saves}
-use Rattle.pg_cache.specs.Place.{IsAt}
-use Rattle.pg_cache.proofs.HeldFacts.{changed-absent}
+use Rattle.pg_cache.specs.Held.{Held}
+use Rattle.pg_cache.specs.Cache.{CacheNow}
 use Rattle.pg_cache.proofs.SoundFacts.{find_at_place, kept_find}
-use Rattle.pg_cache.proofs.StepFacts.{fronted_sound, without_sound, put_sound, entered_sound, read_sound, saved_sound, through_sound, unwritten_sound, written_sound, through_absent, with_held, with_spare, read_as, write_as, saves_dirty, held-saves, leaver_of, stayers_of}
+use Rattle.pg_cache.proofs.StepFacts.{saved_sound, write_as, saves_dirty}
 use Rattle.pg_cache.specs.Cache.{contents, IsSaved}
 use Rattle.pg_cache.proofs.ContentsFacts.{now_of, now-saved, saved-clean, saved-written}
 use Rattle.pg_cache.proofs.cache.Cache.save.Goals as goal
