@@ -285,3 +285,12 @@ whole_was pager page whole tells long = was_of pager.told tells
 pub map-changed : (change : Held → Held) (held : List Held) (page : ℕ) → ((h : Held) → (change h).page ≡ h.page) → map (λ (h : Held). h.page) (changed change held page) ≡ map (λ (h : Held). h.page) held
 map-changed change [] page keeps = refl
 map-changed change (h ∷ hs) page keeps = grind (arith, common_steps, keeps h, map-changed change hs page keeps)
+
+-- where no page is resident, the pages hold what the pager has
+overlaid-none : (page : ℕ) (pages : List (List ℕ)) → overlaid [] page pages ≡ pages
+overlaid-none page [] = refl
+overlaid-none page (bytes ∷ others) = ap (λ (rest : List (List ℕ)). bytes ∷ rest) (overlaid-none (suc page) others)
+
+pub now-none : (held : List Held) (told : Option ToldPages) → held ≡ [] → now_of held told ≡ option_map (λ t. t.holds) told
+now-none held None none = refl
+now-none held (Some t) none = rw none (ap Some (overlaid-none 0 t.holds))

@@ -62,7 +62,8 @@ impl<P: Pager> Cache<P> {
     pub fn open(alloc: Global, pager: P, limit: u32) -> Result<Cache<P>, NoMemory>
         requires some { 0 < limit }
         requires most { limit ≤ 4096 }
-        ensures { IfOk result (λ cache. cache ≡ record { held = []; limit = limit; spare = None; pager = P.shows pager }) }
+        ensures opened { IfOk result (λ cache. cache ≡ record { held = []; limit = limit; spare = None; pager = P.shows pager }) }
+        ensures contents { IfOk result (λ cache. contents cache ≡ option_map (λ told. told.holds) (P.shows pager).told) }
     {
         let limit = limit as usize;
         let free = buffers(alloc, limit)?;
@@ -394,6 +395,7 @@ impl<P: Pager> Cache<P> {
     /// as they were.
     pub fn evict(&mut self, page: u64) -> Result<bool, PagerFault>
         ensures evicts { Evicts self.old page result self.new }
+        ensures answer { IfOk result (λ left. left ≡ is_some (resident_page self.old page)) }
         ensures contents { contents self.new ≡ contents self.old }
         ensures faults { FaultsAfter (is_err result) self.old.pager.faults self.new.pager.faults }
         ensures reads { self.new.pager.reads ≡ self.old.pager.reads }

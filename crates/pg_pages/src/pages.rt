@@ -1,4 +1,4 @@
-ghost use Rattle.std.specs.Prelude.{◌≡◌, ◌+◌, ◌<◌, ◌≤◌, IsSome, IfSome, IfOk, IfErr, OnOk, OnErr, is_err, option_map, if◌then◌else◌, length};
+ghost use Rattle.std.specs.Prelude.{◌≡◌, ◌+◌, ◌<◌, ◌≤◌, IsSome, IfSome, IfOk, IfErr, OnOk, OnErr, is_some, is_err, option_map, if◌then◌else◌, length, slice_get};
 ghost use Rattle.std.specs.Borrow.{sem};
 ghost use Rattle.std.specs.Io.BufRead.{Rests};
 ghost use Rattle.pg_bytes.specs.Counts.{Rose};
@@ -7,7 +7,7 @@ ghost use Rattle.pg_cache.specs.Held.{changed, dirtied};
 ghost use Rattle.pg_cache.specs.Contents.{with_piece};
 ghost use Rattle.pg_cache.specs.Cache.{resident, resident_page, leaver, contents, IsSound};
 ghost use Rattle.pg_cache.specs.Steps.{Peeks, PeekGives, Brings, Writes, Evicts};
-ghost use Rattle.pg_pages.specs.Pages.{bytes_at_hand, Checked};
+ghost use Rattle.pg_pages.specs.Pages.{bytes_at_hand, Answers, Checked};
 ghost use Rattle.pg_pages.specs.contracts.pages.Pages.{the_row};
 
 use crate::NoMemory;
@@ -107,6 +107,7 @@ impl<P: Pager, D: Digester> Pages<P, D> {
     /// Takes a page out of the list, as `evict` of the cache.
     pub fn evict(&mut self, page: u64) -> Result<bool, PagerFault>
         ensures evicts { Evicts self.old.cache page result self.new.cache }
+        ensures answer { IfOk result (λ left. left ≡ is_some (resident_page self.old.cache page)) }
         ensures contents { contents self.new.cache ≡ contents self.old.cache }
         ensures faults { FaultsAfter (is_err result) self.old.cache.pager.faults self.new.cache.pager.faults }
         ensures reads { self.new.cache.pager.reads ≡ self.old.cache.pager.reads }
@@ -125,6 +126,8 @@ impl<P: Pager, D: Digester> Pages<P, D> {
     pub fn check(&mut self, page: u64, kind: HashKind, wanted: &[u8]) -> Result<Check, PagerFault>
         requires { page < self.old.cache.pager.pages }
         ensures peeks { Peeks self.old.cache page (is_err result) self.new.cache }
+        ensures list { self.new.cache.held ≡ self.old.cache.held }
+        ensures known { IfOk result (λ check. IfSome (contents self.old.cache) (λ pages. IfSome (slice_get pages page) (λ bytes. Answers (D.hash kind bytes) wanted.now check))) }
         ensures checked { IfOk result (Checked (D.hash kind) (bytes_at_hand self.new.cache page) wanted.now) }
         ensures contents { contents self.new.cache ≡ contents self.old.cache }
         ensures faults { FaultsAfter (is_err result) self.old.cache.pager.faults self.new.cache.pager.faults }
@@ -141,7 +144,7 @@ impl<P: Pager, D: Digester> Pages<P, D> {
         Ok(Check::NotSealed { found })
     }
 
-    /// Notes that a resident page is mapped by a writer.
+    /// Says that a resident page is mapped by a writer. Nothing depends on it yet, since each check hashes.
     pub fn set_writable(&mut self, page: u64)
         requires { IsSome (resident_page self.old.cache page) }
         ensures { self.new ≡ self.old }
@@ -149,7 +152,7 @@ impl<P: Pager, D: Digester> Pages<P, D> {
         let _ = page;
     }
 
-    /// Notes that no writer maps a page any more. For a page that is not resident there is nothing to note.
+    /// Says that no writer maps a page any more. Nothing depends on it yet.
     pub fn clear_writable(&mut self, page: u64)
         ensures { self.new ≡ self.old }
     {
