@@ -1,0 +1,3 @@
+pub mod PageFacts
+pub mod ReportFacts
+pub mod TextFacts

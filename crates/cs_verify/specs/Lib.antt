@@ -1,0 +1,4 @@
+pub mod Pages
+pub mod Fails
+pub mod Report
+pub mod Text

@@ -1,0 +1,141 @@
+//! The report of a file's bytes.
+
+ghost use Rattle.std.specs.Prelude.{◌≡◌, ◌+◌, ◌≤◌, All, IfOk, IfErr, length, map};
+ghost use Rattle.std.specs.List.{list_all};
+ghost use Rattle.macho_slices.specs.Rules as fat;
+ghost use Rattle.macho_slices.specs.Slices.{IsWithin};
+ghost use Rattle.cs_directory.specs.Directory.{IsDirectory};
+ghost use Rattle.cs_verify.specs.Report.{IsReport, accepted, image_report, slice_report};
+ghost use Rattle.cs_verify.specs.Report as saying;
+ghost use Rattle.cs_verify.specs.Fails.{Refuses};
+
+use crate::pages::{bad_pages, page_count, part};
+use crate::report::{BadPages, SliceReport, VerifyFail};
+use cs_blob::{Blob, BlobFail, blob};
+use macho_cmds::{Image, MachFail, image};
+use macho_slices::slices;
+use pg_bytes::{Octets, Range};
+use pg_digest::Digester;
+use std::alloc::{AllocError, Global};
+
+/// The report of a file: for each slice, in order, the first rule that it breaks, or what it is and each hash page
+/// below the limit that does not match its slot or has none. The refusal is that of a file that is no file of
+/// Mach-O images.
+pub fn verify<D: Digester>(
+    alloc: Global,
+    bytes: &[u8],
+    d: &mut D,
+) -> Result<Vec<SliceReport>, VerifyFail>
+    ensures report { IfOk result (λ found. IsReport D.hash bytes.now found.items) }
+    ensures refused { IfErr result (Refuses (fat.broken bytes.now)) }
+{
+    let found = slices(alloc, bytes)?;
+    Ok(slice_reports(alloc, bytes, &found, d)?)
+}
+
+/// What is said of several slices, in their order.
+fn slice_reports<D: Digester>(
+    alloc: Global,
+    bytes: &[u8],
+    found: &[Range],
+    d: &mut D,
+) -> Result<Vec<SliceReport>, AllocError>
+    requires { All (IsWithin bytes.now) found.now }
+    ensures { IfOk result (λ said. said.items ≡ map (slice_report D.hash bytes.now) found.now) }
+{
+    let mut reports = Vec::with_capacity(alloc, found.len())?;
+    for slice in found {
+        reports.push(slice_report(alloc, bytes, slice, d)?)?;
+    }
+    Ok(reports)
+}
+
+/// What is said of one slice.
+fn slice_report<D: Digester>(
+    alloc: Global,
+    bytes: &[u8],
+    slice: &Range,
+    d: &mut D,
+) -> Result<SliceReport, AllocError>
+    requires { slice.now.at + slice.now.len ≤ length bytes.now }
+    ensures { IfOk result (λ said. said ≡ slice_report D.hash bytes.now slice.now) }
+{
+    match image(alloc, bytes, slice) {
+        Ok(image) => image_report(alloc, part(bytes, slice), slice, &image, d),
+        Err(MachFail::Refused(refusal)) => Ok(SliceReport::Refused(refusal.into())),
+        Err(MachFail::NoMemory) => Err(AllocError),
+    }
+}
+
+/// What is said of an image.
+fn image_report<D: Digester>(
+    alloc: Global,
+    bytes: &[u8],
+    slice: &Range,
+    image: &Image,
+    d: &mut D,
+) -> Result<SliceReport, AllocError>
+    requires inside { image.now.sig.at + image.now.sig.len ≤ length bytes.now }
+    requires whole { length bytes.now ≡ slice.now.len }
+    ensures { IfOk result (λ said. said ≡ image_report D.hash bytes.now slice.now image.now) }
+{
+    let signature = copy_of(alloc, part(bytes, &image.sig))?;
+    match blob(alloc, signature, slice, d) {
+        Ok(blob) => accepted(alloc, bytes, image, &blob, d),
+        Err(BlobFail::Refused(refusal)) => Ok(SliceReport::Refused(refusal.into())),
+        Err(BlobFail::NoMemory) => Err(AllocError),
+    }
+}
+
+/// The same bytes in memory of their own.
+fn copy_of(alloc: Global, bytes: &[u8]) -> Result<Vec<u8>, AllocError>
+    ensures { IfOk result (λ copy. copy.items ≡ bytes.now) }
+{
+    let mut copy = Vec::with_capacity(alloc, bytes.len())?;
+    copy.extend_from_slice(bytes)?;
+    Ok(copy)
+}
+
+/// What is said of an image whose signature is accepted.
+fn accepted<D: Digester>(
+    alloc: Global,
+    bytes: &[u8],
+    image: &Image,
+    blob: &Blob,
+    d: &mut D,
+) -> Result<SliceReport, AllocError>
+    requires directory { IsDirectory blob.now.best_bytes blob.now.best }
+    requires limited { blob.now.best.limit ≤ length bytes.now }
+    ensures { IfOk result (λ said. said ≡ accepted D.hash bytes.now image.now blob.now) }
+{
+    let best = blob.best();
+    let bad = bad_pages(alloc, best, blob.best_bytes(), bytes, d)?;
+    Ok(SliceReport::Accepted {
+        cputype: image.cputype,
+        cpusubtype: image.cpusubtype,
+        filetype: image.filetype,
+        cdhash: *blob.cdhash(),
+        kind: best.kind(),
+        flags: best.flags(),
+        limit: best.limit(),
+        slots: best.slots(),
+        ident: Octets::new(copy_of(alloc, best.ident(blob.best_bytes()))?),
+        bad: BadPages::new(bad),
+        pages: page_count(best.limit()),
+    })
+}
+
+/// Whether a file is sealed: it has a slice, and each of its slices is a signed image all of whose hash pages below
+/// the limit match.
+pub fn all_match(reports: &[SliceReport]) -> bool
+    ensures { result ≡ saying.all_match reports.now }
+{
+    !reports.is_empty() && each_matches(reports)
+}
+
+/// Whether each slice matches.
+fn each_matches(reports: &[SliceReport]) -> bool
+    ensures { result ≡ list_all saying.matches reports.now }
+{
+    reports.iter().all(|report| report.matches())
+}

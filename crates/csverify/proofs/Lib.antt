@@ -1,0 +1,2 @@
+pub mod EndingFacts
+pub mod WordFacts

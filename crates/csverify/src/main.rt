@@ -1,0 +1,47 @@
+//! `csverify PATH` reports each slice of a Mach-O or fat file, and each page that does not match its slot.
+//!
+//! `top` has the top call, which does all that the program does and carries its promise; `main` hands it the real
+//! files and the real output. Below it, `ending` goes through the steps of a run, and `words` reads the command line.
+#![tactic(auto)]
+
+mod ending;
+mod top;
+mod words;
+
+use pg_bytes::{Status, code};
+use pg_io::{DiskFiles, StdoutSink};
+use std::alloc::AllocError;
+use std::env;
+use std::io::ErrorKind;
+use std::process::ExitCode;
+use std::rt::Env;
+pub use top::csverify_main;
+
+/// The words of the command line without the program's name; none where one of them is no text. Want of memory is
+/// the only error.
+fn command_line(rt: &(impl Env + AllocGlobal)) -> Result<Vec<String>, AllocError> {
+    let mut words = Vec::new(rt.alloc());
+    match env::args(rt) {
+        Ok(args) => {
+            for word in args.skip(1) {
+                words.push(word)?;
+            }
+        }
+        Err(e) if e.kind() == ErrorKind::OutOfMemory => return Err(AllocError),
+        Err(_) => {}
+    }
+    Ok(words)
+}
+
+fn main(rt: HostRuntime) -> ExitCode {
+    let Ok(words) = command_line(&rt) else {
+        return ExitCode::from(code(&Status::NoMemory));
+    };
+    let mut files = DiskFiles::new(&rt);
+    let mut out = StdoutSink::new(&rt);
+    let status = csverify_main(rt.alloc(), &words, &mut files, &mut out);
+    ExitCode::from(code(&status))
+}
+
+#[cfg(test)]
+mod tests;
