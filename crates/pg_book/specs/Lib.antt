@@ -1,0 +1,16 @@
+pub mod Needs
+pub mod Lists
+pub mod Views
+pub mod Kinds
+pub mod Rule
+pub mod Tells
+pub mod Steps
+pub mod Models
+pub mod Knowing
+pub mod Outcomes
+pub mod Opening
+pub mod Laid
+pub mod Adding
+pub mod Fails
+pub mod Closing
+pub mod Trials

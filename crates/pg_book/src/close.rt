@@ -1,0 +1,201 @@
+// How a book is closed: all seats are joined into one, and the entries are put in the order of their stamps.
+ghost use Rattle.std.specs.Prelude.{◌≡◌, ◌+◌, ◌≤◌, ◌∷◌, ◌++◌, [], false, length, map, None, vec_len, vec_capacity, IfSome, IfOk, IfErr, IsPermutation};
+ghost use Rattle.pg_book.specs.Kinds.{joined};
+ghost use Rattle.pg_book.specs.Steps.{IsSeatOf, HasLooked};
+ghost use Rattle.pg_book.specs.Closing.{stamped, flat, TakesSpine, TakesPass, Gathered, IsSpineAt, IsPassAt, spine_views, HasParts, TakesPasses, AreSpinesOf, ArePassesOf, IsHistory};
+ghost use Rattle.std.specs.List.Sorted.{IsNonDecreasingBy};
+ghost use Rattle.pg_book.specs.Opening.{EachFrom};
+
+use crate::book::Book;
+use crate::pass::Pass;
+use crate::receipt::{Receipt, Stamped};
+use crate::rule::{BookSeat, BookShared};
+use crate::spine::Spine;
+use crate::steps::{look, take_in};
+
+/// There was no memory to close the book. All comes back untouched.
+#[derive(Drop)]
+pub struct CloseRefused<E> {
+    pub book: Book<E>,
+    pub spines: Vec<Spine<E>>,
+    pub passes: Vec<Pass<E>>,
+}
+
+// How many entries the spines have, where the number fits.
+fn count_of<E: Drop>(spines: &[Spine<E>]) -> Option<usize>
+    ensures { IfSome result (λ n. n ≡ length (flat spines.now)) }
+{
+    let mut count: usize = 0;
+    for spine in spines {
+        count = count.checked_add(entries_on(spine))?;
+    }
+    Some(count)
+}
+
+fn entries_on<E: Drop>(spine: &Spine<E>) -> usize
+    ensures { result ≡ length (flat (spine.now ∷ [])) }
+{
+    spine.receipts.len()
+}
+
+// The seat takes in another, and looks.
+fn absorb<E>(shared: &BookShared<E>, seat: &mut BookSeat<E>, other: BookSeat<E>)
+    requires seat { IsSeatOf shared.now.table_id seat.old.table_id }
+    requires other { (other.table_id ≡ seat.old.table_id) × (other.me.1 ≡ []) }
+    requires live { (seat.old.me.0.spent ≡ false) × (other.me.0.spent ≡ false) }
+    requires settled { other.me.0.due ≡ None }
+    ensures same { (seat.new.table_id ≡ seat.old.table_id) × (seat.new.me.1 ≡ seat.old.me.1) }
+    ensures looked { HasLooked (joined seat.old.me.0 other.me.0) seat.new.me.0 }
+{
+    take_in(shared, seat, other);
+    look(shared, seat);
+}
+
+// Puts the receipts behind the entries.
+fn add_receipts<E: Drop>(entries: &mut Vec<Stamped<E>>, receipts: Vec<Receipt<E>>)
+    requires { vec_len entries.old + length receipts.items ≤ vec_capacity entries.old }
+    ensures items { entries.new.items ≡ entries.old.items ++ map stamped receipts.items }
+    ensures count { vec_len entries.new ≡ vec_len entries.old + length receipts.items }
+    ensures room { vec_capacity entries.old ≤ vec_capacity entries.new }
+{
+    for receipt in receipts {
+        let Receipt {
+            part,
+            caller,
+            stamp,
+            entry,
+        } = receipt;
+        let Ok(()) = entries.push(Stamped {
+            stamp,
+            part,
+            caller,
+            entry,
+        }) else {
+            unreachable!()
+        };
+    }
+}
+
+// Takes in the spine's seat, and its entries.
+fn take_spine<E: Drop>(
+    shared: &BookShared<E>,
+    seat: &mut BookSeat<E>,
+    spine: Spine<E>,
+    entries: &mut Vec<Stamped<E>>,
+)
+    requires seat { IsSeatOf shared.now.table_id seat.old.table_id × (seat.old.me.1 ≡ []) }
+    requires spine { spine.book ≡ seat.old.table_id }
+    requires room { vec_len entries.old + length (flat (spine ∷ [])) ≤ vec_capacity entries.old }
+    requires gathered { (seat.old.me.0.spent ≡ false) }
+    ensures same { (seat.new.table_id ≡ seat.old.table_id) × (seat.new.me.1 ≡ []) }
+    ensures view { TakesSpine spine seat.old.me.0 seat.new.me.0 }
+    ensures items { entries.new.items ≡ entries.old.items ++ map stamped (flat (spine ∷ [])) }
+    ensures count { vec_len entries.new ≡ vec_len entries.old + length (flat (spine ∷ [])) }
+    ensures capacity { vec_capacity entries.old ≤ vec_capacity entries.new }
+{
+    let Spine {
+        table: _,
+        seat: other,
+        part: _,
+        receipts,
+    } = spine;
+    absorb(shared, seat, other);
+    add_receipts(entries, receipts);
+}
+
+fn take_pass<E: Drop>(shared: &BookShared<E>, seat: &mut BookSeat<E>, pass: Pass<E>)
+    requires seat { IsSeatOf shared.now.table_id seat.old.table_id × (seat.old.me.1 ≡ []) }
+    requires pass { pass.book ≡ seat.old.table_id }
+    requires gathered { (seat.old.me.0.spent ≡ false) }
+    ensures same { (seat.new.table_id ≡ seat.old.table_id) × (seat.new.me.1 ≡ []) }
+    ensures view { TakesPass pass seat.old.me.0 seat.new.me.0 }
+{
+    let Pass {
+        seat: other,
+        number: _,
+    } = pass;
+    absorb(shared, seat, other);
+}
+
+// Takes in all spines, in the order of their parts.
+fn take_spines<E: Drop>(
+    shared: &BookShared<E>,
+    seat: &mut BookSeat<E>,
+    spines: Vec<Spine<E>>,
+    entries: &mut Vec<Stamped<E>>,
+)
+    requires seat { IsSeatOf shared.now.table_id seat.old.table_id × (seat.old.me.1 ≡ []) }
+    requires view { Gathered seat.old.me.0.needs [] seat.old.me.0 }
+    requires spines { EachFrom (IsSpineAt seat.old.table_id) 0 spines.items }
+    requires room { vec_len entries.old + length (flat spines.items) ≤ vec_capacity entries.old }
+    ensures same { (seat.new.table_id ≡ seat.old.table_id) × (seat.new.me.1 ≡ []) }
+    ensures view { Gathered seat.old.me.0.needs (spine_views spines.items) seat.new.me.0 }
+    ensures items { entries.new.items ≡ entries.old.items ++ map stamped (flat spines.items) }
+{
+    for spine in spines {
+        take_spine(shared, seat, spine, entries);
+    }
+}
+
+// Takes in all passes, in the order of their callers.
+fn take_passes<E: Drop>(shared: &BookShared<E>, seat: &mut BookSeat<E>, passes: Vec<Pass<E>>)
+    requires seat { IsSeatOf shared.now.table_id seat.old.table_id × (seat.old.me.1 ≡ []) }
+    requires view { HasParts seat.old.me.0 }
+    requires passes { EachFrom (IsPassAt seat.old.table_id) 0 passes.items }
+    ensures same { (seat.new.table_id ≡ seat.old.table_id) × (seat.new.me.1 ≡ []) }
+    ensures view { TakesPasses passes.items seat.old.me.0 seat.new.me.0 }
+{
+    for pass in passes {
+        take_pass(shared, seat, pass);
+    }
+}
+
+// The entries in the order of their stamps. It takes no memory.
+fn in_order<E: Drop>(mut entries: Vec<Stamped<E>>) -> Vec<Stamped<E>>
+    ensures same { IsPermutation entries.items result.items }
+    ensures sorted { IsNonDecreasingBy (λ e. e.stamp) result.items }
+{
+    entries
+        .as_mut_slice()
+        .sort_unstable_by_key(|entry| entry.stamp);
+    entries
+}
+
+impl<E: Drop> Book<E> {
+    /// Closes the book with all its spines and passes, and gives all entries in the order of their stamps, which
+    /// are 0, 1 and so on. It is refused only for want of memory, and then all comes back untouched.
+    pub fn close(
+        self,
+        spines: Vec<Spine<E>>,
+        passes: Vec<Pass<E>>,
+    ) -> Result<Vec<Stamped<E>>, CloseRefused<E>>
+        requires spines { AreSpinesOf self spines.items }
+        requires passes { ArePassesOf self passes.items }
+        ensures closed { IfOk result (λ v. IsHistory spines.items passes.items v.items) }
+        ensures refused { IfErr result (λ r. (r.book ≡ self) × (r.spines ≡ spines) × (r.passes ≡ passes)) }
+    {
+        let Some(count) = count_of(spines.as_slice()) else {
+            return Err(CloseRefused {
+                book: self,
+                spines,
+                passes,
+            });
+        };
+        let Ok(mut entries) = Vec::with_capacity(self.alloc, count) else {
+            return Err(CloseRefused {
+                book: self,
+                spines,
+                passes,
+            });
+        };
+        let Book {
+            table,
+            mut seat,
+            alloc: _,
+        } = self;
+        take_spines(&table.shared, &mut seat, spines, &mut entries);
+        take_passes(&table.shared, &mut seat, passes);
+        look(&table.shared, &mut seat);
+        Ok(in_order(entries))
+    }
+}

@@ -1,0 +1,131 @@
+ghost use Rattle.std.specs.Prelude.{◌≡◌, ◌+◌, ◌<◌, ◌≤◌, length, replicate, vec_len, IfOk};
+ghost use Rattle.pg_book.specs.Needs.{rows};
+ghost use Rattle.pg_book.specs.Opening.{IsOpenable};
+ghost use Rattle.pg_book.specs.Trials.{IsRun, HasRoomFor, evenly};
+
+use crate::{AllNeeds, Book, Needs, Pass, Spine, Stamped};
+use std::alloc::{AllocError, Global};
+use std::test::Fail;
+
+fn row_of(alloc: Global, parts: usize, entries: u64) -> Result<Vec<Needs>, AllocError>
+    ensures { IfOk result (λ v. v.items ≡ replicate parts (evenly entries)) }
+{
+    let mut row = Vec::new(alloc);
+    for _part in 0..parts {
+        row.push(Needs {
+            entries,
+            regions: 0,
+            records: 0,
+            copies: 0,
+            blobs: 0,
+            numbers: 0,
+        })?;
+    }
+    Ok(row)
+}
+
+// Each caller needs so many entries on each part.
+fn table(alloc: Global, callers: usize, parts: usize, entries: u64) -> Result<AllNeeds, AllocError>
+    requires callers { (0 < callers) × (callers ≤ 100) }
+    requires parts { parts ≤ 100 }
+    requires entries { entries ≤ 1000 }
+    ensures openable { IfOk result (λ v. IsOpenable (rows v)) }
+    ensures room { IfOk result (λ v. HasRoomFor (rows v) entries) }
+{
+    let mut all = Vec::new(alloc);
+    for _caller in 0..callers {
+        all.push(row_of(alloc, parts, entries)?)?;
+    }
+    Ok(all)
+}
+
+// One draw of the caller on the part.
+fn draw_on(
+    book: &Book<u64>,
+    spines: &mut Vec<Spine<u64>>,
+    passes: &mut Vec<Pass<u64>>,
+    used: usize,
+    draw: (usize, usize, u64),
+)
+    requires run { IsRun book.now used spines.old.items passes.old.items }
+    requires room { HasRoomFor book.now.view.needs (used + 1) }
+    requires part { draw.0 < vec_len spines.old }
+    requires caller { draw.1 < vec_len passes.old }
+    ensures run { IsRun book.now (used + 1) spines.new.items passes.new.items }
+{
+    let _ = book;
+    let spine = &mut spines[draw.0];
+    let pass = &mut passes[draw.1];
+    let _ = spine.draw(pass, draw.2, draw.2);
+}
+
+// The history of these draws, each a part, a caller and an entry.
+fn history_of(
+    alloc: Global,
+    needs: AllNeeds,
+    draws: &[(usize, usize, u64)],
+) -> Option<Vec<Stamped<u64>>>
+    requires openable { IsOpenable (rows needs) }
+    requires room { HasRoomFor (rows needs) (length draws.now) }
+{
+    let Ok((book, mut spines, mut passes)) = Book::open(alloc, needs) else {
+        return None;
+    };
+    for (used, draw) in draws.iter().enumerate() {
+        if draw.0 >= spines.len() || draw.1 >= passes.len() {
+            return None;
+        }
+        draw_on(&book, &mut spines, &mut passes, used, *draw);
+    }
+    book.close(spines, passes).ok()
+}
+
+#[test]
+fn stamps_of_one_caller(rt: HostRuntime) -> Result<(), Fail> {
+    let needs = table(rt.alloc(), 1, 2, 3)?;
+    let draws = [(0, 0, 10), (1, 0, 20), (0, 0, 30)];
+    let Some(history) = history_of(rt.alloc(), needs, &draws) else {
+        panic!(rt; "the book was not opened, or not closed")
+    };
+    assert_eq!(rt; history.len(), 3);
+    for (number, entry) in history.iter().enumerate() {
+        assert!(rt; number < 3 && entry.stamp == number as u64 && entry.caller == 0);
+        assert_eq!(rt; entry.entry, [10, 20, 30][number]);
+        assert_eq!(rt; entry.part, [0, 1, 0][number]);
+    }
+    Ok(())
+}
+
+#[test]
+fn nothing_drawn(rt: HostRuntime) -> Result<(), Fail> {
+    let needs = table(rt.alloc(), 2, 3, 0)?;
+    let Some(history) = history_of(rt.alloc(), needs, &[]) else {
+        panic!(rt; "the book was not opened, or not closed")
+    };
+    assert_eq!(rt; history.len(), 0);
+    Ok(())
+}
+
+#[test]
+fn eight_callers_and_eighty_one_parts(rt: HostRuntime) -> Result<(), Fail> {
+    let needs = table(rt.alloc(), 8, 81, 648)?;
+    let mut draws = Vec::new(rt.alloc());
+    for part in 0..81 {
+        for caller in 0..8 {
+            draws.push((part, caller, 7u64))?;
+        }
+    }
+    assert!(rt; draws.len() == 648);
+    let Some(history) = history_of(rt.alloc(), needs, draws.as_slice()) else {
+        panic!(rt; "the book was not opened, or not closed")
+    };
+    assert_eq!(rt; history.len(), 648);
+    for (number, entry) in history.iter().enumerate() {
+        assert_eq!(rt; entry.stamp as usize, number);
+        assert_eq!(rt;
+            (entry.part as usize, entry.caller as usize),
+            (number / 8, number % 8)
+        );
+    }
+    Ok(())
+}
