@@ -14,8 +14,9 @@ pub struct Mapping {
     pub id: u32,
     /// The number of the file, below 16.
     pub file: u32,
-    /// The first page of the file that is mapped, and how many pages are.
+    /// The first page of the file that is mapped.
     pub first: u64,
+    /// How many pages are mapped.
     pub pages: u64,
     /// What the process may do with the pages.
     pub prot: Prot,

@@ -187,8 +187,8 @@ impl Process {
         ProcReply::Debugged { flags: self.flags }
     }
 
-    /// Pays for a denied access. The reply is Dead or Killed where the process does not run, else Kill where KILL
-    /// is set and DEBUGGED is not, which kills the process and sets KILLED, and else Spare.
+    /// Punishes the process for a denied access. The reply is Dead or Killed where the process does not run, else
+    /// Kill where KILL is set and DEBUGGED is not, which kills the process and sets KILLED, and else Spare.
     pub fn punish(&mut self) -> ProcReply
         ensures reply { result ≡ (process_step self.old Punish).0 }
         ensures after { self.new ≡ (process_step self.old Punish).1 }
