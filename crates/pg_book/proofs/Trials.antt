@@ -1,6 +1,7 @@
 -- Draws as tests make them.
 use Rattle.std.proofs.Common.{◌≡◌, ℕ, zero, suc, ◌+◌, ◌*◌, ◌<◌, ◌≤◌, Bool, true, false, cond, filter, List, [], ◌∷◌, ◌++◌, length, get_or, set, replicate, refl, sym, ap, ◌∙◌, subst, arith, eqb, length-append, length-set}
 use lib.ListN.{length-replicate, get_or-replicate}
+use Rattle.atomic_table.specs.Seated.{TableId}
 use Rattle.pg_book.specs.declared.needs.Needs.{Needs}
 use Rattle.pg_book.specs.declared.receipt.Receipt.{Receipt}
 use Rattle.pg_book.specs.Needs.{parts_of, entries_at, row_entries, all_entries, nothing_needed}
@@ -9,7 +10,7 @@ use Rattle.pg_book.specs.Models.{SpineOf, PassOf, BookOf, pass_receipts}
 use Rattle.pg_book.specs.Opening.{EachFrom, IsOpenable, IsOpened, IsNewSpine, IsNewPass}
 use Rattle.pg_book.specs.Closing.{IsSpineAt, IsPassAt}
 use Rattle.pg_book.specs.Outcomes.{Draws}
-use Rattle.pg_book.specs.Trials.{IsRun, HasRoomFor, evenly}
+use Rattle.pg_book.specs.Trials.{IsRun, HasRoomFor, IsDrawing, evenly}
 use Rattle.pg_book.proofs.Placing.{each_map}
 
 pub replicate_push : {A : Type 0} (n : ℕ) (a : A) → replicate n a ++ a ∷ [] ≡ replicate (n + 1) a
@@ -107,4 +108,20 @@ module _ {E : Type 0} where
       drawn = each_set (λ c x. (x.view.needs ≡ book.view.needs) × (length (pass_receipts x) ≤ used + 1)) 0 caller passes p'
           (each_map (λ c x. (x.view.needs ≡ book.view.needs) × (length (pass_receipts x) ≤ used)) (λ c x. (x.view.needs ≡ book.view.needs) × (length (pass_receipts x) ≤ used + 1)) 0 passes (λ k x y. (y.0, (let l = y.1 in omega arith))) run.drawn)
           (d.pass_keeps.needs ∙ few.0, (let l = few.1 in let e = ap length d.pass_list in omega (arith, length-append (pass_receipts p) (r ∷ []))));
+    }
+
+  module _ (book : TableId) (number : ℕ) (small : number < 100) (s : SpineOf E) (p : PassOf E) (first : IsSpineAt book 0 s) (d : IsDrawing book 100 number p) where
+    pub may_draw : HasRoom s.part p.caller p.view
+    may_draw =
+        let a : 100 ≤ entries_at p.view.needs p.caller s.part = subst (λ (k : ℕ). 100 ≤ entries_at p.view.needs p.caller k) (sym first.is_part) d.room in
+        let b = length-filter_le (λ (r : Receipt E). eqb r.part s.part) (pass_receipts p) in
+        let c = d.few in
+        let lt = small in
+        omega arith
+
+    pub draws_on : (entry : E) (r : Receipt E) (s' : SpineOf E) (p' : PassOf E) → Draws s p entry r s' p' → IsDrawing book 100 (number + 1) p'
+    draws_on entry r s' p' drew = record {
+      same_book = drew.same_books.1 ∙ d.same_book;
+      room = subst (λ (x : List (List Needs) × ℕ). 100 ≤ entries_at x.0 x.1 0) (λ i. (sym drew.pass_keeps.needs i, sym drew.same_caller i)) d.room;
+      few = let l = d.few in let e = ap length drew.pass_list in omega (arith, length-append (pass_receipts p) (r ∷ []));
     }

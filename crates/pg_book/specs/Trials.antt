@@ -1,5 +1,6 @@
 -- Draws on a book's spines and passes, as tests make them.
-use Rattle.std.specs.Prelude.{◌≡◌, ℕ, ◌<◌, ◌≤◌, List, length}
+use Rattle.std.specs.Prelude.{◌≡◌, ℕ, ◌<◌, ◌≤◌, List, [], length}
+use Rattle.atomic_table.specs.Seated.{TableId}
 use Rattle.pg_book.specs.declared.needs.Needs.{Needs}
 use Rattle.pg_book.specs.Needs.{parts_of, entries_at}
 use Rattle.pg_book.specs.Models.{SpineOf, PassOf, BookOf, pass_receipts}
@@ -19,3 +20,13 @@ pub record IsRun {E : Type 0} (book : BookOf E) (used : ℕ) (spines : List (Spi
   pub spines_are : AreSpinesOf book spines
   pub passes_are : ArePassesOf book passes
   pub drawn : EachFrom (λ caller p. (p.view.needs ≡ book.view.needs) × (length (pass_receipts p) ≤ used)) 0 passes
+
+-- a pass of the book that drew at most so many entries, and may draw `most` on part 0
+pub record IsDrawing {E : Type 0} (book : TableId) (most used : ℕ) (p : PassOf E) : Type 0 where
+  pub same_book : p.book ≡ book
+  pub room : most ≤ entries_at p.view.needs p.caller 0
+  pub few : length (pass_receipts p) ≤ used
+
+-- the book of a name that no call picked
+abbrev pub no_book : TableId
+no_book = record { words = 0; slots = 0; views_name = 0; atom = 0; block = 0; offset = 0; slot_names = [] }

@@ -1,11 +1,15 @@
 ghost use Rattle.std.specs.Prelude.{◌≡◌, ◌+◌, ◌<◌, ◌≤◌, length, replicate, vec_len, IfOk};
 ghost use Rattle.pg_book.specs.Needs.{rows};
 ghost use Rattle.pg_book.specs.Opening.{IsOpenable};
-ghost use Rattle.pg_book.specs.Trials.{IsRun, HasRoomFor, evenly};
+ghost use Rattle.pg_book.specs.Closing.{IsSpineAt, IsPassAt};
+ghost use Rattle.pg_book.specs.Trials.{IsRun, HasRoomFor, IsDrawing, evenly};
 
 use crate::{AllNeeds, Book, Needs, Pass, Spine, Stamped};
 use std::alloc::{AllocError, Global};
+use std::marker::{Brand, PhantomData};
+use std::sync::{Mutex, Wait};
 use std::test::Fail;
+use std::thread::{Threads, join};
 
 fn row_of(alloc: Global, parts: usize, entries: u64) -> Result<Vec<Needs>, AllocError>
     ensures { IfOk result (λ v. v.items ≡ replicate parts (evenly entries)) }
@@ -127,5 +131,131 @@ fn eight_callers_and_eighty_one_parts(rt: HostRuntime) -> Result<(), Fail> {
             (number / 8, number % 8)
         );
     }
+    Ok(())
+}
+
+// Which book it is. Each call picks it.
+trait Naming {
+    ghost use Rattle.atomic_table.specs.Seated.{TableId};
+
+    ghost book: { TableId };
+}
+
+impl Naming for Brand {
+    ghost use Rattle.pg_book.specs.Trials.{no_book};
+
+    ghost book = { no_book };
+}
+
+// The spine of part 0, as it lies behind the part's lock.
+#[derive(Drop)]
+struct Kept<B: Naming> {
+    spine: Spine<u64>,
+    of: PhantomData<B>,
+    ghost is_first: { IsSpineAt B.book 0 spine },
+}
+
+impl<B: Naming> Kept<B> {
+    fn new(spine: Spine<u64>) -> Kept<B>
+        requires { IsSpineAt B.book 0 spine }
+    {
+        Kept {
+            spine,
+            of: PhantomData,
+        }
+    }
+
+    // The pass's next draw. Its entry is its number among the pass's draws.
+    fn draw(&mut self, pass: &mut Pass<u64>, number: u64)
+        requires number { number < 100 }
+        requires drawing { IsDrawing B.book 100 number pass.old }
+        ensures drawing { IsDrawing B.book 100 (number + 1) pass.new }
+        ensures caller { pass.new.caller ≡ pass.old.caller }
+    {
+        let _ = self.spine.draw(pass, number, number);
+    }
+}
+
+fn draw_many<B: Naming>(rt: &impl Wait, lock: &Mutex<Kept<B>>, mut pass: Pass<u64>) -> Pass<u64>
+    requires { IsDrawing B.book 100 0 pass }
+    ensures { IsPassAt B.book pass.caller result }
+{
+    for number in 0..100 {
+        lock.lock(rt).draw(&mut pass, number);
+    }
+    pass
+}
+
+// Two threads draw 100 times each on one spine behind its lock.
+fn drawn_by_two<B: Naming + Send + Sync, R: Threads + Wait + Sync>(
+    rt: &R,
+    spine: Spine<u64>,
+    first: Pass<u64>,
+    second: Pass<u64>,
+) -> (Spine<u64>, Pass<u64>, Pass<u64>)
+    requires spine { IsSpineAt B.book 0 spine }
+    requires first { IsDrawing B.book 100 0 first }
+    requires second { IsDrawing B.book 100 0 second }
+    ensures spine { IsSpineAt B.book 0 result.0 }
+    ensures first { IsPassAt B.book first.caller result.1 }
+    ensures second { IsPassAt B.book second.caller result.2 }
+{
+    let kept = Mutex::new(Kept::<B>::new(spine));
+    let lock = &kept;
+    let (first, second) = join(
+        rt,
+        move || -> Pass<u64>
+            requires { IsDrawing B.book 100 0 first }
+            ensures { IsPassAt B.book first.caller result }
+        { draw_many(rt, lock, first) },
+        move || -> Pass<u64>
+            requires { IsDrawing B.book 100 0 second }
+            ensures { IsPassAt B.book second.caller result }
+        { draw_many(rt, lock, second) },
+    );
+    let Kept { spine, of: _ } = kept.into_inner();
+    (spine, first, second)
+}
+
+// The history of a book with one part, on which the two callers draw 100 times each, in a thread each.
+fn history_of_two<R: Threads + Wait + Sync>(
+    rt: &R,
+    alloc: Global,
+    needs: AllNeeds,
+) -> Option<Vec<Stamped<u64>>>
+    requires openable { IsOpenable (rows needs) }
+    requires room { HasRoomFor (rows needs) 100 }
+{
+    let Ok((book, mut spines, mut passes)) = Book::open(alloc, needs) else {
+        return None;
+    };
+    if spines.len() != 1 || passes.len() != 2 {
+        return None;
+    }
+    let spine = spines.pop()?;
+    let second = passes.pop()?;
+    let first = passes.pop()?;
+    let (spine, first, second) = drawn_by_two::<Brand, R>(rt, spine, first, second);
+    spines.push(spine).ok()?;
+    passes.push(first).ok()?;
+    passes.push(second).ok()?;
+    book.close(spines, passes).ok()
+}
+
+#[test]
+fn two_threads_on_one_part(rt: HostRuntime) -> Result<(), Fail> {
+    let needs = table(rt.alloc(), 2, 1, 100)?;
+    let Some(history) = history_of_two(&rt, rt.alloc(), needs) else {
+        panic!(rt; "the book was not opened, or not closed")
+    };
+    assert_eq!(rt; history.len(), 200);
+    let mut next = [0, 0];
+    for (number, entry) in history.iter().enumerate() {
+        assert_eq!(rt; entry.stamp as usize, number);
+        assert!(rt; entry.part == 0 && entry.caller < 2 && entry.entry < 100);
+        assert_eq!(rt; entry.entry, next[entry.caller as usize]);
+        next[entry.caller as usize] = entry.entry + 1;
+    }
+    assert_eq!(rt; next, [100, 100]);
     Ok(())
 }
