@@ -1,5 +1,5 @@
--- How many digests the signature's grammar asks for. The digest of each blob that has a special slot is held
--- against that slot, in the order of types, and no other blob is digested.
+-- How many digests the signature's grammar asks for: that of each blob that has a special slot is held against that
+-- slot, in the order of types.
 use Rattle.std.specs.Prelude.{ℕ, ◌-◌, List, take, is_some}
 use Rattle.std.specs.List.{count_by}
 use Rattle.cs_superblob.specs.declared.entries.Seat.{Seat}

@@ -20,9 +20,9 @@ use std::alloc::Global;
 /// code directory or a SuperBlob; there is a blob of type 0; each code directory, of type 0 or 0x1000 to 0x1004,
 /// is one; no two have hash types of one rank; a CMS signature is empty; for each type from 1 to 11, a blob of
 /// it has a special slot in the best directory and matches it; that directory's limit is within the slice. The
-/// digester is called once for each blob of those types, until one is refused, and once for the cdhash: no CMS
-/// signature and no other blob is digested. Where a rule before them is broken, or memory runs out, it is not
-/// called. On an error the bytes are dropped.
+/// digester is called at most once for each blob of those types, up to the one that is refused, and once more for
+/// the cdhash. Where a rule before them is broken, or memory runs out, it is not called. On an error the bytes are
+/// dropped.
 pub fn blob<D: Digester>(
     alloc: Global,
     bytes: Vec<u8>,

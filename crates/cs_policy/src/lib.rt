@@ -1,4 +1,4 @@
-//! The words that the parts of the machine speak: what happens to a part, and what the part answers.
+//! Events and replies: what happens to a part of the machine, and what the part answers.
 //!
 //! A part is changed by one event after another, and answers each with a reply. Here are the events and replies
 //! of a process and of the trust list, and refusals, by which replies tell of bytes that break their format. The

@@ -30,7 +30,7 @@ pub enum ProcEvent {
     },
     /// A debugger attaches.
     Debug,
-    /// An access was denied, and the process pays for it.
+    /// An access was denied: the process is killed where its flags ask for it, and else spared.
     Punish,
     /// An access was given in spite of a broken rule.
     ClearValid,

@@ -98,7 +98,7 @@ pub enum ProcEvent {
     Resolve {
         addr: u64,
     },
-    /// The process pays for a denied fault.
+    /// A fault of the process was denied.
     Punish,
 }
 

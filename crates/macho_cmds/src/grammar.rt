@@ -21,8 +21,7 @@ use std::alloc::Global;
 const MAGIC: u32 = 0xfeed_facf;
 
 /// The image in a slice of a file. The refusal is that of the first rule that is broken; `MachRefusal` has them in
-/// their order. The time is linear in the bytes of the load commands, whatever number of them the header gives, and
-/// memory is taken for segments that were found in the bytes only.
+/// their order.
 pub fn image(alloc: Global, bytes: &[u8], slice: &Range) -> Result<Image, MachFail>
     requires { slice.now.at + slice.now.len ≤ length bytes.now }
     ensures accepted { IfOk result (IsImage bytes.now slice.now) }

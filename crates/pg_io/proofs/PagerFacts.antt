@@ -3,11 +3,8 @@ use Rattle.std.proofs.Common.{◌≡◌, ◌+◌, ◌-◌, ◌*◌, ◌/◌, ◌
 use Rattle.std.proofs.Math.Seq.{take-append_seam}
 use Rattle.std.proofs.Math.Nat.{div-mul-le_self}
 use Rattle.pg_io.specs.Pager.{page_size}
+use Rattle.pg_io.specs.MemPages.{written_over}
 use Rattle.pg_io.specs.MemPagesLaws.{length-over}
-
--- a page is written over among these bytes
-abbrev pub written_over : List ℕ → ℕ → List ℕ → List ℕ
-written_over bytes at from = take at bytes ++ (from ++ drop (at + length from) bytes)
 
 -- all of a buffer's bytes were replaced by as many
 pub all_replaced : (used : ℕ) (all put : List ℕ) → used ≡ length put → take used (put ++ drop (length put) all) ≡ put

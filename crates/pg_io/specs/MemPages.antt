@@ -1,5 +1,6 @@
 -- Pages that stand in memory.
-use Rattle.std.specs.Prelude.{ℕ, zero, suc, ◌+◌, ◌-◌, ◌*◌, ◌/◌, List, [], ◌∷◌, ◌++◌, length, take, drop, replicate, Some}
+use Rattle.std.specs.Prelude.{ℕ, zero, suc, ◌+◌, ◌-◌, ◌*◌, ◌/◌, Bool, List, [], ◌∷◌, ◌++◌, length, take, drop, replicate, Some, if◌then◌else◌}
+use Rattle.pg_io.specs.Calls.{next_count, is_to_fail}
 use Rattle.pg_io.specs.Pager.{page_size, PagerNow}
 
 -- a pager in memory
@@ -33,6 +34,30 @@ first_pages size (suc count) bytes = take size bytes ∷ first_pages size count 
 -- the whole pages of these bytes
 unfoldable pub pages_of : List ℕ → List (List ℕ)
 pages_of bytes = first_pages page_size (length bytes / page_size) bytes
+
+-- these bytes put among others at a place
+abbrev pub written_over : List ℕ → ℕ → List ℕ → List ℕ
+written_over bytes at from = take at bytes ++ (from ++ drop (at + length from) bytes)
+
+-- whether the next call is to fail
+abbrev pub call_fails : MemPagerNow → Bool
+call_fails pager = is_to_fail pager.made pager.fails
+
+-- how many calls have failed after one more
+abbrev pub faults_after : MemPagerNow → ℕ
+faults_after pager = if call_fails pager then next_count pager.faults else pager.faults
+
+-- the pager after a read of a page
+abbrev pub after_page_read : MemPagerNow → MemPagerNow
+after_page_read pager = record pager { made = next_count pager.made; faults = faults_after pager; reads = next_count pager.reads }
+
+-- the pager after a write of these bytes to a page: where it is to fail, the page is as it was
+abbrev pub after_page_write : ℕ → List ℕ → MemPagerNow → MemPagerNow
+after_page_write page from pager = record pager {
+  bytes = if call_fails pager then pager.bytes else written_over pager.bytes (page * page_size) from;
+  made = next_count pager.made;
+  faults = faults_after pager;
+}
 
 -- what a pager in memory shows
 abbrev pub shown : MemPagerNow → PagerNow

@@ -1,7 +1,7 @@
 ghost use Rattle.std.specs.Prelude.{◌≡◌, ◌+◌, ◌-◌, ◌<◌, ◌≤◌, ◌++◌, IfOk, IsTrue, is_err, if◌then◌else◌, vec_len, length, take, drop, replicate};
 ghost use Rattle.pg_io.specs.Calls.{next_count, is_to_fail};
 ghost use Rattle.pg_io.specs.Pager.{page_size, FaultsAfter, IsRead, IsWrite};
-ghost use Rattle.pg_io.specs.MemPages.{MemPagerNow, shown, whole_pages};
+ghost use Rattle.pg_io.specs.MemPages.{MemPagerNow, shown, whole_pages, written_over, after_page_read, after_page_write};
 ghost use Rattle.pg_io.specs.MemPagesLaws.{shown-TellsWhole};
 
 use crate::NoMemory;
@@ -95,7 +95,7 @@ fn padded(mut bytes: Vec<u8>) -> Result<Vec<u8>, NoMemory>
 // These bytes put at a place among others.
 fn put_at(bytes: &mut [u8], at: usize, from: &[u8])
     requires { at + length from.now ≤ length bytes.old }
-    ensures { bytes.new ≡ take at bytes.old ++ (from.now ++ drop (at + length from.now) bytes.old) }
+    ensures { bytes.new ≡ written_over bytes.old at from.now }
 {
     bytes[at..at + from.len()].copy_from_slice(from);
 }
@@ -109,7 +109,12 @@ impl Pager for MemPager {
         (self.bytes.len() / PAGE_SIZE) as u64
     }
 
-    fn read_page(&mut self, page: u64, into: &mut [u8]) -> Result<(), Failed> {
+    fn read_page(&mut self, page: u64, into: &mut [u8]) -> Result<(), Failed>
+        requires inside { page < (shown self.old).pages }
+        requires whole { length into.old ≡ page_size }
+        ensures read { IsRead (shown self.old) page (is_err result) into.new (shown self.new) }
+        ensures after { self.new ≡ after_page_read self.old }
+    {
         self.reads = self.reads.saturating_add(1);
         if self.call_fails() {
             return Err(Failed);
@@ -119,7 +124,12 @@ impl Pager for MemPager {
         Ok(())
     }
 
-    fn write_page(&mut self, page: u64, from: &[u8]) -> Result<(), Failed> {
+    fn write_page(&mut self, page: u64, from: &[u8]) -> Result<(), Failed>
+        requires inside { page < (shown self.old).pages }
+        requires whole { length from.now ≡ page_size }
+        ensures wrote { IsWrite (shown self.old) page (is_err result) from.now (shown self.new) }
+        ensures after { self.new ≡ after_page_write page from.now self.old }
+    {
         if self.call_fails() {
             return Err(Failed);
         }

@@ -3,7 +3,7 @@ ghost use Rattle.pg_bytes.specs.Counts.{Rose};
 ghost use Rattle.std.specs.Io.KnownBytes.{append_known};
 ghost use Rattle.pg_io.specs.Sink.{sent, SentPart};
 
-/// A write failed, by a fault of the outside.
+/// The outside failed: a write, or a read or a write of a page, was not made.
 #[derive(Clone, Copy, Debug, PartialEq, Eq)]
 pub struct Failed;
 

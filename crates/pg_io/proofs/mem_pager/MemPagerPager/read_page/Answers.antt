@@ -5,8 +5,8 @@ use Rattle.pg_io.specs.MemPagesLaws.{get-pages_of}
 use Rattle.pg_io.proofs.PagerFacts.{bytes_copied}
 use Rattle.pg_io.proofs.mem_pager.MemPagerPager.read_page.Goals as goal
 
-pub returns-then-call_fails : goal.returns-then-call_fails
-returns-then-call_fails c = record {
+pub returns-then-call_fails-clause-read : goal.returns-then-call_fails-clause-read
+returns-then-call_fails-clause-read c = record {
   pages = search rules;
   reads = search rules;
   faults = search rules;
@@ -15,8 +15,8 @@ returns-then-call_fails c = record {
   told = search rules;
 }
 
-pub returns : goal.returns
-returns c =
+pub returns-clause-read : goal.returns-clause-read
+returns-clause-read c =
     let same =
     c.deref.ensures.value ∙ ap (λ (p : MemPagerNow). p.bytes) c.self-2.view_is ∙ ap (λ (p : MemPagerNow). p.bytes) c.call_fails.ensures.counts
     ∙ ap (λ (p : MemPagerNow). p.bytes) c.self.view_is in

@@ -7,8 +7,8 @@ use Rattle.pg_io.specs.MemPagesLaws.{set-pages_of, length-over}
 use Rattle.pg_io.proofs.PagerFacts.{bytes_after, page_fits}
 use Rattle.pg_io.proofs.mem_pager.MemPagerPager.write_page.Goals as goal
 
-pub returns-then-call_fails : goal.returns-then-call_fails
-returns-then-call_fails c = record {
+pub returns-then-call_fails-clause-wrote : goal.returns-then-call_fails-clause-wrote
+returns-then-call_fails-clause-wrote c = record {
   pages = search rules;
   reads = search rules;
   faults = search rules;
@@ -16,8 +16,8 @@ returns-then-call_fails c = record {
   told = search rules;
 }
 
-pub returns : goal.returns
-returns c =
+pub returns-clause-wrote : goal.returns-clause-wrote
+returns-clause-wrote c =
     let old = c.args.self.now.bytes in
     let from = c.args.from.now in
     let at = c.args.page * page_size in
