@@ -13,14 +13,15 @@ use Rattle.pg_book.specs.Needs.{parts_of}
 use Rattle.pg_book.specs.Lists.{Among, Rising, Numbered, of_part, of_caller}
 use Rattle.pg_book.specs.Views.{list_at, Holds, Stands}
 use Rattle.pg_book.specs.Tells.{Sees}
-use Rattle.pg_book.specs.Models.{SpineOf, PassOf, spine_receipts, pass_receipts}
-use Rattle.pg_book.specs.Knowing.{Knows}
+use Rattle.pg_book.specs.Models.{SpineOf, PassOf, spine_receipts, pass_receipts, IsSpineAt, IsPassAt}
+use Rattle.pg_book.specs.Knowing.{IsKnownTo}
 use Rattle.pg_book.specs.Opening.{EachFrom}
-use Rattle.pg_book.specs.Closing.{stamped, flat, Taken, Gathered, spine_views, pass_views, IsSpineAt, IsPassAt, StandsIn, IsHistory}
+use Rattle.pg_book.specs.Gathering.{Taken, Gathered, spine_views, pass_views}
+use Rattle.pg_book.specs.Closing.{stamped, flat, StandsIn, IsHistory}
 use Rattle.pg_book.proofs.ListFacts.{among_left, among_right, among_filter, filter_among, rising_filter, rising_same, numbered_range, numbered_rising, prefix_among}
 use Rattle.pg_book.proofs.SumFacts.{sum_to, length-of_part}
 use Rattle.pg_book.proofs.ViewFacts.{nat_cases}
-use Rattle.pg_book.proofs.Placing.{each_map}
+use Rattle.pg_book.proofs.Placing.{each_map, each_all}
 
 module _ {A : Type 0} where
   -- both facts of each element
@@ -173,6 +174,11 @@ module _ {E : Type 0} where
   numbered_stamps n (x ∷ log) h zero e is = let f : stamped x ≡ e = cc in let s = h.0 in let t : x.stamp ≡ e.stamp = ap (λ (z : Stamped E). z.stamp) f in omega arith
   numbered_stamps n (x ∷ log) h (suc k) e is = let r = numbered_stamps (suc n) log h.1 k e is in omega arith
 
+  among_at : (log : List (Receipt E)) (k : ℕ) (e : Stamped E) → slice_get (map stamped log) k ≡ Some e → (r : Receipt E) × Among r log × (stamped r ≡ e)
+  among_at [] k e is = absurd (cc)
+  among_at (x ∷ log) zero e is = (x, inl refl, cc)
+  among_at (x ∷ log) (suc k) e is = let r = among_at log k e is in (r.0, inr r.1, r.2)
+
   numbered_at : (n : ℕ) (log : List (Receipt E)) → Numbered n log → (r : Receipt E) (k : ℕ) → Among r log → r.stamp ≡ n + k → slice_get (map stamped log) k ≡ Some (stamped r)
   numbered_at n [] h r k a e = absurd a
   numbered_at n (x ∷ log) h r zero (inl f) e = ap (λ z. Some (stamped z)) f
@@ -180,7 +186,7 @@ module _ {E : Type 0} where
   numbered_at n (x ∷ log) h r (suc k) (inl f) e = let t : x.stamp ≡ r.stamp = ap (λ (z : Receipt E). z.stamp) f in let s = h.0 in absurd (omega arith)
   numbered_at n (x ∷ log) h r (suc k) (inr a) e = numbered_at (suc n) log h.1 r k a (omega arith)
 
-  module _ (needs : List (List Needs)) (a b : TableId) (spines : List (SpineOf E)) (passes : List (PassOf E)) (z : View E) (g : Gathered needs (spine_views spines ++ pass_views passes) z) (sees : Sees z) (count : length spines ≡ parts_of needs) (at_spines : EachFrom (IsSpineAt a) 0 spines) (at_passes : EachFrom (IsPassAt b) 0 passes) where
+  module _ (needs : List (List Needs)) (a b : TableId) (spines : List (SpineOf E)) (passes : List (PassOf E)) (z : View E) (g : Gathered needs (spine_views spines ++ pass_views passes) z) (sees : Sees z) (count : length spines ≡ parts_of needs) (callers : length passes ≡ length needs) (at_spines : EachFrom (IsSpineAt a) 0 spines) (at_passes : EachFrom (IsPassAt b) 0 passes) where
     abbrev log : List (Receipt E)
     log = sees.log
 
@@ -222,7 +228,7 @@ module _ {E : Type 0} where
         (λ le. from_stands r (g.ready.sound.callers (k - parts_of z.needs) r (subst (λ (j : ℕ). Among r (list_at z j)) (omega arith) x)).1)
         (λ no. from_part k r (lt_of_not-le no) x)
 
-    known : (x : View E) → Knows x z → (k : ℕ) (r : Receipt E) → Among r (list_at x k) → StandsIn (map stamped log) r
+    known : (x : View E) → IsKnownTo x z → (k : ℕ) (r : Receipt E) → Among r (list_at x k) → StandsIn (map stamped log) r
     known x knows k r y = numbered_at 0 log sees.logged.numbered r r.stamp (from_any k r (prefix_among r _ _ (knows.lists k) y)) (omega arith)
 
     caller_is : (c : ℕ) → of_caller c log ≡ list_at z (parts_of z.needs + c)
@@ -248,13 +254,17 @@ module _ {E : Type 0} where
     of_log : IsHistory spines passes (map stamped log)
     of_log = record {
       stamps = λ k e is. numbered_stamps 0 log sees.logged.numbered k e is ∙ omega arith;
+      of_book = λ k e is. let r = among_at log k e is in let p = sees.logged.parts r.0 r.1 in let c = sees.logged.callers r.0 r.1 in (
+        subst (λ (x : Stamped E). x.part < length spines) r.2 (subst (λ (n : ℕ). r.0.part < n) parts_are p),
+        subst (λ (x : Stamped E). x.caller < length passes) r.2 (subst (λ (n : ℕ). r.0.caller < n) (ap length g.needs_are ∙ sym callers) c),
+      );
       of_spines = each_map (λ k s. of_part k log ≡ spine_receipts s) (λ k s. filter (λ (e : Stamped E). eqb e.part k) (map stamped log) ≡ map stamped (spine_receipts s)) 0 spines (λ k s e. filter_stamped (λ x. eqb x.part k) log ∙ ap (map stamped) e) all_parts;
       of_passes = each_map (λ c p. Taken (parts_of z.needs + c) p.view z × IsPassAt b c p) (λ c p. filter (λ (e : Stamped E). eqb e.caller c) (map stamped log) ≡ map stamped (pass_receipts p)) 0 passes
           (λ c p x. filter_stamped (λ y. eqb y.caller c) log ∙ ap (map stamped) (caller_is c ∙ sym (pass_own c p x.0 x.1))) both_passes;
-      rising = each_map (λ c p. Taken (parts_of z.needs + c) p.view z × IsPassAt b c p) (λ c p. Rising (pass_receipts p)) 0 passes
+      rising = each_all (λ c p. Taken (parts_of z.needs + c) p.view z × IsPassAt b c p) (λ p. Rising (pass_receipts p)) 0 passes
           (λ c p x. subst Rising (sym (pass_own c p x.0 x.1)) (g.ready.sound.lists (parts_of z.needs + c)).rising) both_passes;
-      known_to_spines = each_map (λ k s. Taken k s.view z) (λ part s. (k : ℕ) (r : Receipt E) → Among r (list_at s.view k) → StandsIn (map stamped log) r) 0 spines (λ k s t. known s.view t.knows) taken_spines;
-      known_to_passes = each_map (λ c p. Taken (parts_of z.needs + c) p.view z) (λ caller p. (k : ℕ) (r : Receipt E) → Among r (list_at p.view k) → StandsIn (map stamped log) r) 0 passes (λ c p t. known p.view t.knows) taken_passes;
+      known_to_spines = each_all (λ k s. Taken k s.view z) (λ s. (k : ℕ) (r : Receipt E) → Among r (list_at s.view k) → StandsIn (map stamped log) r) 0 spines (λ k s t. known s.view t.knows) taken_spines;
+      known_to_passes = each_all (λ c p. Taken (parts_of z.needs + c) p.view z) (λ p. (k : ℕ) (r : Receipt E) → Among r (list_at p.view k) → StandsIn (map stamped log) r) 0 passes (λ c p t. known p.view t.knows) taken_passes;
     }
 
     pub history : (es : List (Stamped E)) → IsPermutation (map stamped (flat spines)) es → IsNonDecreasingBy (λ (e : Stamped E). e.stamp) es → IsHistory spines passes es

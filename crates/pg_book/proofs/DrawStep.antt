@@ -16,7 +16,7 @@ use Rattle.pg_book.specs.Rule.{Truth, Fits, Kept}
 use Rattle.pg_book.specs.Tells.{Drew, DrewFor, MayDraw}
 use Rattle.pg_book.proofs.ListFacts.{among_push, prefix_refl, prefix_push, prefix_trans, prefix_among, rising_push, numbered_push}
 use Rattle.pg_book.proofs.SumFacts.{length-log}
-use Rattle.pg_book.proofs.ViewFacts.{nat_cases, Pushes, pushes, pushed_held, pushed_former, pushed_heard, pushed_here, pushed_else, pushed_prefix, pushed_among}
+use Rattle.pg_book.proofs.ViewFacts.{nat_cases, Pushes, pushes, pushed_held, pushed_former, pushed_former_other, pushed_here, pushed_else, pushed_prefix, pushed_among}
 use Rattle.pg_book.proofs.KeptFacts.{Grows, fits_on, fits_set, held_set}
 
 module _ {E : Type 0} where
@@ -91,11 +91,11 @@ module _ {E : Type 0} where
     drawn_sound : Sound w
     drawn_sound = record {
       live = s.live;
-      told = s.told;
+      same_needs = s.same_needs;
       small = s.small;
       whole = length-set v.names part (with_receipt (name_at v part) r) ∙ s.whole;
       former = λ j. subst (λ (l : List (Receipt E)). IsPrefix l (list_at w j)) (sym (pushed_former p j)) (prefix_trans _ _ _ (s.former j) (pushed_prefix p j));
-      heard = λ j. subst (λ (l : List (Receipt E)). IsPrefix l (list_at w j)) (sym (pushed_heard p j)) (prefix_trans _ _ _ (s.heard j) (pushed_prefix p j));
+      former_other = λ j. subst (λ (l : List (Receipt E)). IsPrefix l (list_at w j)) (sym (pushed_former_other p j)) (prefix_trans _ _ _ (s.former_other j) (pushed_prefix p j));
       lists = drawn_list;
       callers = λ c x a. let k = s.callers c x (subst (Among x) (pushed_else p (parts_of v.needs + c) (caller_else c _ refl)) a) in (k.0, drawn_stands x k.1);
       due = λ x e. let f : r ≡ x = cc in subst (IsDue w) f record { part = may.is_part; held = pushed_held p part ∙ may.holds; before = list_at v part; last = pushed_here p };

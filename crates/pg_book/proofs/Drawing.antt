@@ -11,13 +11,13 @@ use Rattle.pg_book.specs.Kinds.{note, looked, drawn, merged_views, due_still, ta
 use Rattle.pg_book.specs.Tells.{MayDraw}
 use Rattle.pg_book.specs.Steps.{HasLooked}
 use Rattle.pg_book.specs.Models.{IsSpineView, IsPassView}
-use Rattle.pg_book.specs.Knowing.{HasRoom, HasMet, HasDrawn}
+use Rattle.pg_book.specs.Knowing.{HasRoom, HasDrawn}
 use Rattle.pg_book.proofs.ListFacts.{prefix_trans, among_filter, filter_among, rising_filter, rising_within}
 use Rattle.pg_book.proofs.SumFacts.{length-part_lt}
 use Rattle.pg_book.proofs.ViewFacts.{note_list, Pushes, pushes, pushed_held, pushed_former, pushed_here}
 use Rattle.pg_book.proofs.SplitStep.{note_sound}
 use Rattle.pg_book.proofs.JoinStep.{merged_name, length-merged_all}
-use Rattle.pg_book.proofs.Meetings.{all_above, has_last, Heard, hears, TakesNote, takes_note}
+use Rattle.pg_book.proofs.Meetings.{HasMet, all_above, has_last, HasJoined, has_joined, TakesNote, takes_note}
 
 module _ {E : Type 0} where
   -- of a caller the part's list has no more receipts than the caller has of the part
@@ -179,8 +179,8 @@ module _ {E : Type 0} where
       }
 
       -- the fourth meeting
-      k5 : Heard u (note q') s'
-      k5 = hears u (note q') s' su (note_sound q' h4.sound) q'_due h5
+      k5 : HasJoined u (note q') s'
+      k5 = has_joined u (note q') s' su (note_sound q' h4.sound) q'_due h5
 
       s'_takes : TakesNote u q' (name_at s')
       s'_takes = takes_note u q' (name_at s') k5.name
@@ -195,7 +195,7 @@ module _ {E : Type 0} where
       s'_list = s'_takes.own part u_holds ∙ u_list
 
       q'_in_s' : (k : ℕ) → IsPrefix (list_at q' k) (list_at s' k)
-      q'_in_s' k = subst (λ (l : List (Receipt E)). IsPrefix l (list_at s' k)) (note_list q' k) (k5.heard k)
+      q'_in_s' k = subst (λ (l : List (Receipt E)). IsPrefix l (list_at s' k)) (note_list q' k) (k5.told k)
 
       no_longer : due_still (Some r) (note q') ≡ None
       no_longer = ap (λ (b : Bool). cond b None (Some r)) (ap (has_stamp stamp) (note_list q' (caller_name q' caller) ∙ q'_caller) ∙ has_last (caller_list q caller) r)

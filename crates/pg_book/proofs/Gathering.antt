@@ -9,10 +9,11 @@ use Rattle.pg_book.specs.Views.{name_at, list_at, Holds}
 use Rattle.pg_book.specs.Kinds.{joined, due_still}
 use Rattle.pg_book.specs.Steps.{HasLooked}
 use Rattle.pg_book.specs.Models.{SpineOf, PassOf, spine_receipts, IsReady, IsBookView}
-use Rattle.pg_book.specs.Closing.{flat, Taken, Gathered, TakesSpine, TakesPass, HasParts, TakesPasses, spine_views, pass_views}
+use Rattle.pg_book.specs.Gathering.{Taken, Gathered, TakesSpine, TakesPass, HasParts, TakesPasses, spine_views, pass_views}
+use Rattle.pg_book.specs.Closing.{flat}
 use Rattle.pg_book.proofs.ListFacts.{prefix_trans}
 use Rattle.pg_book.proofs.Placing.{each_push, each_map}
-use Rattle.pg_book.proofs.Meetings.{Heard, hears}
+use Rattle.pg_book.proofs.Meetings.{HasJoined, has_joined}
 
 one_true : (b c : Bool) → (b || c) ≡ true → (b ≡ true) ⊎ (c ≡ true)
 one_true true c h = inl refl
@@ -42,8 +43,8 @@ module _ {E : Type 0} where
     each = each_push (λ i y. Taken i y w) 0 n xs x (each_map (λ i y. Taken i y v) (λ i y. Taken i y w) 0 xs stays g.each) (omega (arith, at)) here;
   }
     where
-      k : Heard v x w
-      k = hears v x w g.ready.sound ready.sound ready.unsent h
+      k : HasJoined v x w
+      k = has_joined v x w g.ready.sound ready.sound ready.unsent h
 
       own : Holds x n × ((k : ℕ) → Holds x k → k ≡ n)
       own = only (k.same ∙ g.needs_are)
@@ -59,14 +60,14 @@ module _ {E : Type 0} where
       here = record {
         holds = ap (λ (m : Name E). m.held) (k.name n) ∙ ap (λ (b : Bool). b || (name_at x n).held) new ∙ own.0;
         list = ap (λ (m : Name E). m.list) (k.name n) ∙ ap (λ (b : Bool). cond b (list_at v n) (cond (name_at x n).held (list_at x n) (longer (list_at v n) (list_at x n)))) new ∙ ap (λ (b : Bool). cond b (list_at x n) (longer (list_at v n) (list_at x n))) own.0;
-        knows = record { needs = k.needs ∙ sym k.same; lists = k.heard };
+        knows = record { needs = k.needs ∙ sym k.same; lists = k.told };
       }
 
       stays : (i : ℕ) (y : View E) → Taken i y v → Taken i y w
       stays i y t = record {
         holds = ap (λ (m : Name E). m.held) (k.name i) ∙ ap (λ (b : Bool). b || (name_at x i).held) t.holds;
         list = ap (λ (m : Name E). m.list) (k.name i) ∙ ap (λ (b : Bool). cond b (list_at v i) (cond (name_at x i).held (list_at x i) (longer (list_at v i) (list_at x i)))) t.holds ∙ t.list;
-        knows = record { needs = k.needs ∙ t.knows.needs; lists = λ j. prefix_trans _ _ _ (t.knows.lists j) (k.former j) };
+        knows = record { needs = k.needs ∙ t.knows.needs; lists = λ j. prefix_trans _ _ _ (t.knows.lists j) (k.kept j) };
       }
 
   pub gathers_spine : (needs : List (List Needs)) (done : List (SpineOf E)) (s : SpineOf E) (v w : View E) → Gathered needs (spine_views done) v → s.part ≡ length done → TakesSpine s v w → Gathered needs (spine_views (done ++ s ∷ [])) w

@@ -11,7 +11,7 @@ use Rattle.pg_book.specs.Views.{name_at, list_at, caller_name, caller_list, Hold
 use Rattle.pg_book.specs.Kinds.{with_own, with_receipt, takes}
 use Rattle.pg_book.specs.Rule.{Truth, Fits, Kept}
 use Rattle.pg_book.proofs.ListFacts.{among_push, prefix_refl, prefix_push, prefix_trans, prefix_among, rising_push, above_all}
-use Rattle.pg_book.proofs.ViewFacts.{nat_cases, Pushes, pushes, pushed_held, pushed_former, pushed_heard, pushed_here, pushed_else, pushed_prefix, pushed_among}
+use Rattle.pg_book.proofs.ViewFacts.{nat_cases, Pushes, pushes, pushed_held, pushed_former, pushed_former_other, pushed_here, pushed_else, pushed_prefix, pushed_among}
 use Rattle.pg_book.proofs.KeptFacts.{Grows, fits_on, fits_set, held_set}
 
 both_true : (b c : Bool) → (b && c) ≡ true → (b ≡ true) × (c ≡ true)
@@ -96,11 +96,11 @@ module _ {E : Type 0} where
       w_sound : Sound w
       w_sound = record {
         live = s.live;
-        told = s.told;
+        same_needs = s.same_needs;
         small = s.small;
         whole = length-set v.names k (with_receipt (name_at v k) r) ∙ s.whole;
         former = λ j. subst (λ (l : List (Receipt E)). IsPrefix l (list_at w j)) (sym (pushed_former q j)) (prefix_trans _ _ _ (s.former j) (pushed_prefix q j));
-        heard = λ j. subst (λ (l : List (Receipt E)). IsPrefix l (list_at w j)) (sym (pushed_heard q j)) (prefix_trans _ _ _ (s.heard j) (pushed_prefix q j));
+        former_other = λ j. subst (λ (l : List (Receipt E)). IsPrefix l (list_at w j)) (sym (pushed_former_other q j)) (prefix_trans _ _ _ (s.former_other j) (pushed_prefix q j));
         lists = λ j. ⊎_elim (λ (e : j ≡ k). subst (λ (i : ℕ). IsListOf v.needs v.floor i (list_at w i)) (sym e) lists_here) (λ (m : j ≢ k). subst (IsListOf v.needs v.floor j) (sym (pushed_else q j m)) (s.lists j)) (nat_cases j k);
         callers = λ c x a. ⊎_elim
             (λ (b : Among x (caller_list v c)). let d = s.callers c x b in (d.0, w_stands x d.1))

@@ -11,7 +11,7 @@ use Rattle.pg_book.specs.declared.view.View.{View}
 use Rattle.pg_book.specs.Needs.{parts_of, names_of}
 use Rattle.pg_book.specs.Lists.{Among, IsPrefix, has_stamp, longer}
 use Rattle.pg_book.specs.Views.{blank, name_at, list_at, caller_list, Holds, Stands, IsListOf, Sound}
-use Rattle.pg_book.specs.Kinds.{nobody, merged, merged_all, merged_views, due_still, takes, with_own, grown, joined}
+use Rattle.pg_book.specs.Kinds.{spent_view, merged, merged_all, merged_views, due_still, takes, with_own, grown, joined}
 use Rattle.pg_book.specs.Rule.{Truth, HoldsAt, Fits, IsTruth, Kept}
 use Rattle.pg_book.proofs.ListFacts.{prefix_refl, prefix_among, prefix_compare, has_among, among_filter, numbered_same}
 use Rattle.pg_book.proofs.ViewFacts.{nat_cases, due_stands}
@@ -143,11 +143,11 @@ module _ {E : Type 0} where
     merged_sound : Sound m
     merged_sound = record {
       live = f.sound.live;
-      told = same_needs;
+      same_needs = same_needs;
       small = f.sound.small;
       whole = length-merged_all v.names w.names ∙ f.sound.whole;
       former = λ k. subst (λ (l : List (Receipt E)). IsPrefix l (list_at m k)) (sym (ap (λ (x : Name E). x.former) (name k))) (taken k).left;
-      heard = λ k. subst (λ (l : List (Receipt E)). IsPrefix l (list_at m k)) (sym (ap (λ (x : Name E). x.heard) (name k))) (taken k).right;
+      former_other = λ k. subst (λ (l : List (Receipt E)). IsPrefix l (list_at m k)) (sym (ap (λ (x : Name E). x.former_other) (name k))) (taken k).right;
       lists = λ k. ⊎_elim
           (λ (e : list_at m k ≡ list_at v k). subst (IsListOf v.needs (max v.floor w.floor) k) (sym e) (raised v.needs v.floor (max v.floor w.floor) k (list_at v k) (omega arith) (f.sound.lists k)))
           (λ (e : list_at m k ≡ list_at w k). subst (IsListOf v.needs (max v.floor w.floor) k) (sym e) (raised v.needs w.floor (max v.floor w.floor) k (list_at w k) (omega arith) (subst (λ (n : List (List Needs)). IsListOf n w.floor k (list_at w k)) same_needs (g.sound.lists k))))
@@ -188,21 +188,21 @@ module _ {E : Type 0} where
     grows = record { log = le_of_eq refl; registered = le_of_eq refl; own = λ k. prefix_refl (t.own k) }
 
     abbrev after : List (View E)
-    after = set (set views id m) other nobody
+    after = set (set views id m) other spent_view
 
     fits_after : (j : ℕ) (x : View E) → get_elem? after j ≡ some x → x.spent ≡ false → Fits needs u j x
     fits_after j x e now =
         ⊎_elim
-        (λ (p : (j ≡ other) × (nobody ≡ x)). absurd (true≢false (ap (λ (z : View E). z.spent) p.1 ∙ now)))
+        (λ (p : (j ≡ other) × (spent_view ≡ x)). absurd (true≢false (ap (λ (z : View E). z.spent) p.1 ∙ now)))
         (λ (p : (j ≢ other) × (get_elem? (set views id m) j ≡ some x)).
         ⊎_elim
         (λ (q : (j ≡ id) × (m ≡ x)). subst (λ (y : ℕ × View E). Fits needs u y.0 y.1) (λ i. (sym q.0 i, q.1 i)) merged_fits)
         (λ (q : (j ≢ id) × (get_elem? views j ≡ some x)). let was = h.is.fits j x q.1 now in fits_on needs t u j x grows was (λ k held. (stays k (λ c. p.0 (sym (was.owner k held) ∙ c)), refl)))
         (at_set views id j m x p.1))
-        (at_set (set views id m) other j nobody x e)
+        (at_set (set views id m) other j spent_view x e)
 
     at_id : get_elem? after id ≡ some m
-    at_id = set_else (set views id m) other id nobody (λ e. two (sym e)) ∙ set_here views id m (at_below views id v at)
+    at_id = set_else (set views id m) other id spent_view (λ e. two (sym e)) ∙ set_here views id m (at_below views id v at)
 
     owned_after : (k : ℕ) → k < t.registered → HoldsAt after (u.owner k) k
     owned_after k lt =
@@ -214,7 +214,7 @@ module _ {E : Type 0} where
         subst (λ (i : ℕ). HoldsAt after i k) (sym (moved k e)) r)
         (λ (n : t.owner k ≢ other).
         let r = held_set views id v m (t.owner k) k at live (kept_left k) o in
-        let q : HoldsAt after (t.owner k) k = record { view = r.view; there = set_else (set views id m) other (t.owner k) nobody n ∙ r.there; live = r.live; holds = r.holds } in
+        let q : HoldsAt after (t.owner k) k = record { view = r.view; there = set_else (set views id m) other (t.owner k) spent_view n ∙ r.there; live = r.live; holds = r.holds } in
         subst (λ (i : ℕ). HoldsAt after i k) (sym (stays k n)) q)
         (nat_cases (t.owner k) other)
 
@@ -233,17 +233,17 @@ module _ {E : Type 0} where
         set_again (x ∷ xs) (suc i) a c = ap (λ l. x ∷ l) (set_again xs i a c)
     set_turn (x ∷ xs) (suc i) (suc j) a b c n = ap (λ l. x ∷ l) (set_turn xs i j a b c (λ e. n (ap suc e)))
 
-    kept_joined : Kept needs words (set (set views id (joined v w)) other nobody)
+    kept_joined : Kept needs words (set (set views id (joined v w)) other spent_view)
     kept_joined = pick w.sent refl
       where
-        pick : (o : Option (Receipt E)) → w.sent ≡ o → Kept needs words (set (set views id (grown m o)) other nobody)
+        pick : (o : Option (Receipt E)) → w.sent ≡ o → Kept needs words (set (set views id (grown m o)) other spent_view)
         pick None e = kept_merged
         pick (Some r) e = choose (takes m r) refl
           where
-            choose : (b : Bool) → takes m r ≡ b → Kept needs words (set (set views id (cond b (with_own m r) m)) other nobody)
+            choose : (b : Bool) → takes m r ≡ b → Kept needs words (set (set views id (cond b (with_own m r) m)) other spent_view)
             choose false is = kept_merged
-            choose true is = subst (λ (l : List (View E)). Kept needs words l) (set_turn views id other m nobody (with_own m r) two) (kept_grow needs words after id m r live at_id is (stands_right r (g.sound.sent r e)) kept_merged)
+            choose true is = subst (λ (l : List (View E)). Kept needs words l) (set_turn views id other m spent_view (with_own m r) two) (kept_grow needs words after id m r live at_id is (stands_right r (g.sound.sent r e)) kept_merged)
 
-  pub joins : (needs : List (List Needs)) (id other : ℕ) (v w : View E) → v.spent ≡ false → w.spent ≡ false → w.due ≡ None → Joins {S = Unit {0}} (λ s. Kept needs s.words s.views) id v other w (joined v w) nobody
+  pub joins : (needs : List (List Needs)) (id other : ℕ) (v w : View E) → v.spent ≡ false → w.spent ≡ false → w.due ≡ None → Joins {S = Unit {0}} (λ s. Kept needs s.words s.views) id v other w (joined v w) spent_view
   joins needs id other v w live alive nothing_due s h at two there =
       kept_joined needs s.words s.views h id other v w live alive nothing_due at (sym (set_else s.views id other (joined v w) two) ∙ there) two

@@ -11,7 +11,7 @@ use Rattle.pg_book.specs.Kinds.{note, looked, merged, merged_views, due_still, g
 use Rattle.pg_book.specs.Tells.{Sees}
 use Rattle.pg_book.specs.Steps.{HasLooked}
 use Rattle.pg_book.specs.Models.{IsSpineView, IsPassView}
-use Rattle.pg_book.specs.Knowing.{HasMet}
+use Rattle.pg_book.specs.Knowing.{IsKnownTo}
 use Rattle.pg_book.proofs.ListFacts.{prefix_among}
 use Rattle.pg_book.proofs.ViewFacts.{note_name, note_list}
 use Rattle.pg_book.proofs.SplitStep.{note_sound}
@@ -35,7 +35,7 @@ module _ {E : Type 0} where
       or_true false = refl
 
   -- a view joined with one that sent nothing, after a peek
-  pub record Heard (v s w : View E) : Type 0 where
+  pub record HasJoined (v s w : View E) : Type 0 where
     pub same : s.needs ≡ v.needs
     pub needs : w.needs ≡ v.needs
     pub sound : Sound w
@@ -43,11 +43,11 @@ module _ {E : Type 0} where
     pub due : w.due ≡ due_still v.due s
     pub sent : w.sent ≡ v.sent
     pub name : (k : ℕ) → name_at w k ≡ merged (name_at v k) (name_at s k)
-    pub former : (k : ℕ) → IsPrefix (list_at v k) (list_at w k)
-    pub heard : (k : ℕ) → IsPrefix (list_at s k) (list_at w k)
+    pub kept : (k : ℕ) → IsPrefix (list_at v k) (list_at w k)
+    pub told : (k : ℕ) → IsPrefix (list_at s k) (list_at w k)
 
-  pub hears : (v s w : View E) → Sound v → Sound s → s.sent ≡ None → HasLooked (joined v s) w → Heard v s w
-  hears v s w sv ss unsent h = record {
+  pub has_joined : (v s w : View E) → Sound v → Sound s → s.sent ≡ None → HasLooked (joined v s) w → HasJoined v s w
+  has_joined v s w sv ss unsent h = record {
     same = same;
     needs = needs;
     sound = h.sound;
@@ -55,8 +55,8 @@ module _ {E : Type 0} where
     due = ap (λ (x : View E). x.due) view;
     sent = ap (λ (x : View E). x.sent) view;
     name = name;
-    former = λ k. subst (λ (l : List (Receipt E)). IsPrefix l (list_at w k)) (ap (λ (n : Name E). n.former) (name k)) (h.sound.former k);
-    heard = λ k. subst (λ (l : List (Receipt E)). IsPrefix l (list_at w k)) (ap (λ (n : Name E). n.heard) (name k)) (h.sound.heard k);
+    kept = λ k. subst (λ (l : List (Receipt E)). IsPrefix l (list_at w k)) (ap (λ (n : Name E). n.former) (name k)) (h.sound.former k);
+    told = λ k. subst (λ (l : List (Receipt E)). IsPrefix l (list_at w k)) (ap (λ (n : Name E). n.former_other) (name k)) (h.sound.former_other k);
   }
     where
       view : w ≡ looked (merged_views v s) h.found
@@ -66,7 +66,7 @@ module _ {E : Type 0} where
       needs = ap (λ (x : View E). x.needs) view
 
       same : s.needs ≡ v.needs
-      same = sym (ap (λ (x : View E). x.heard) view) ∙ h.sound.told ∙ needs
+      same = sym (ap (λ (x : View E). x.other_needs) view) ∙ h.sound.same_needs ∙ needs
 
       name : (k : ℕ) → name_at w k ≡ merged (name_at v k) (name_at s k)
       name k = ap (λ (x : View E). name_at x k) view ∙ merged_name v s k (sv.whole ∙ ap names_of (sym same) ∙ sym ss.whole)
@@ -83,7 +83,15 @@ module _ {E : Type 0} where
   }
     where
       merged_rest : ℕ → List (Receipt E)
-      merged_rest k = (merged record { held = false; list = (name_at v k).list; former = []; heard = [] } (name_at (note s) k)).list
+      merged_rest k = (merged record { held = false; list = (name_at v k).list; former = []; former_other = [] } (name_at (note s) k)).list
+
+  -- what a meeting leaves: the pass knows all that it and the spine knew, and its own list is as it was
+  pub record HasMet (part caller : ℕ) (s p q : View E) : Type 0 where
+    pub view : IsPassView caller q
+    pub kept : IsKnownTo p q
+    pub told : IsKnownTo s q
+    pub own : caller_list q caller ≡ caller_list p caller
+    pub met : (r : Receipt E) → Among r (list_at s part) → r.caller ≡ caller → Among r (caller_list q caller)
 
   -- what the pass knows after a meeting
   pub met : (part caller : ℕ) (s p q : View E) → IsSpineView part s → IsPassView caller p → HasLooked (joined p (note s)) q → HasMet part caller s p q
@@ -94,20 +102,20 @@ module _ {E : Type 0} where
       holds = subst (λ (n : List (List Needs)). Holds q (parts_of n + caller)) (sym k.needs) (t.held _ ∙ pp.holds);
       only = λ j held. pp.only j (sym (t.held j) ∙ held) ∙ ap (λ (n : List (List Needs)). parts_of n + caller) (sym k.needs);
     };
-    kept = record { needs = k.needs; lists = k.former };
+    kept = record { needs = k.needs; lists = k.kept };
     told = record { needs = k.needs ∙ sym k.same; lists = told };
     own = own;
     met = λ r a e. subst (λ (l : List (Receipt E)). Among r l) (ap (λ (n : List (List Needs)). list_at q (parts_of n + caller)) (k.same ∙ sym k.needs)) (prefix_among r _ _ (told (caller_name s caller)) (subst (λ (c : ℕ). Among r (caller_list s c)) e (settled r a)));
   }
     where
-      k : Heard p (note s) q
-      k = hears p (note s) q pp.ready.sound (note_sound s ss.ready.sound) ss.ready.settled h
+      k : HasJoined p (note s) q
+      k = has_joined p (note s) q pp.ready.sound (note_sound s ss.ready.sound) ss.ready.settled h
 
       t : TakesNote p s (name_at q)
       t = takes_note p s (name_at q) k.name
 
       told : (j : ℕ) → IsPrefix (list_at s j) (list_at q j)
-      told j = subst (λ (l : List (Receipt E)). IsPrefix l (list_at q j)) (note_list s j) (k.heard j)
+      told j = subst (λ (l : List (Receipt E)). IsPrefix l (list_at q j)) (note_list s j) (k.told j)
 
       own : caller_list q caller ≡ caller_list p caller
       own = ap (λ (n : List (List Needs)). list_at q (parts_of n + caller)) k.needs ∙ t.own _ pp.holds

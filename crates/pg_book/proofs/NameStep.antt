@@ -62,11 +62,11 @@ module _ {E : Type 0} where
     named_sound : Sound v → Sound (named v k)
     named_sound s = record {
       live = s.live;
-      told = s.told;
+      same_needs = s.same_needs;
       small = s.small;
       whole = length-set v.names k fresh ∙ s.whole;
       former = λ j. named_old j (λ n. n.former) refl (s.former j);
-      heard = λ j. named_old j (λ n. n.heard) refl (s.heard j);
+      former_other = λ j. named_old j (λ n. n.former_other) refl (s.former_other j);
       lists = λ j. subst (IsListOf v.needs v.floor j) (sym (named_list j)) (s.lists j);
       callers = λ c r a. let q = s.callers c r (subst (Among r) (named_list (parts_of v.needs + c)) a) in (q.0, named_stands r q.1);
       due = λ r e. let d = s.due r e in record { part = d.part; held = named_keeps r.part d.held; before = d.before; last = named_list r.part ∙ d.last };

@@ -19,11 +19,11 @@ module _ {E : Type 0} where
   pub looked_sound : (v : View E) (n : ℕ) → v.floor ≤ n → Sound v → Sound (looked v n)
   looked_sound v n le s = record {
     live = s.live;
-    told = s.told;
+    same_needs = s.same_needs;
     small = s.small;
     whole = s.whole;
     former = s.former;
-    heard = s.heard;
+    former_other = s.former_other;
     lists = λ k. let l = s.lists k in record { rising = l.rising; below = λ r a. lt_of_lt_of_le (l.below r a) le; of_part = l.of_part; callers = l.callers; within = l.within };
     callers = λ c r a. let k = s.callers c r a in (k.0, record { part = k.1.part; there = k.1.there });
     due = λ r e. let d = s.due r e in record { part = d.part; held = d.held; before = d.before; last = d.last };

@@ -1,10 +1,10 @@
--- Lists whose elements are told by their places, and the rows of the needs.
-use Rattle.std.proofs.Common.{◌≡◌, ℕ, zero, suc, ◌+◌, ◌<◌, ◌≤◌, List, [], ◌∷◌, ◌++◌, length, get_or, drop, vec_len, vec_capacity, length-append, le_trans, refl, sym, ap, ◌∙◌, subst, arith}
+-- Lists whose elements have facts by their places, and the rows of the needs.
+use Rattle.std.proofs.Common.{◌≡◌, ℕ, zero, suc, ◌+◌, ◌<◌, ◌≤◌, List, [], ◌∷◌, ◌++◌, length, get_or, drop, All, vec_len, vec_capacity, length-append, le_trans, refl, sym, ap, ◌∙◌, subst, arith}
 use Rattle.std.specs.Global.{Vec}
+use Rattle.std.proofs.lemmas.List.Elements.{All-nil, All-cons}
 use Rattle.pg_book.specs.declared.needs.Needs.{Needs}
 use Rattle.pg_book.specs.Needs.{rows_of, part_entries, nothing_needed}
 use Rattle.pg_book.specs.Opening.{EachFrom}
-use Rattle.pg_book.specs.Adding.{IsSoFar}
 
 module _ {A : Type 0} where
   pub each_push : (P : ℕ → A → Type 0) (n k : ℕ) (xs : List A) (x : A) → EachFrom P n xs → n + length xs ≡ k → P k x → EachFrom P n (xs ++ x ∷ [])
@@ -17,6 +17,11 @@ module _ {A : Type 0} where
   pub each_map : (P Q : ℕ → A → Type 0) (n : ℕ) (xs : List A) → ((k : ℕ) (x : A) → P k x → Q k x) → EachFrom P n xs → EachFrom Q n xs
   each_map P Q n [] f h = tt
   each_map P Q n (x ∷ xs) f h = (f n x h.0, each_map P Q (suc n) xs f h.1)
+
+  -- a fact that does not speak of the place
+  pub each_all : (P : ℕ → A → Type 0) (Q : A → Type 0) (n : ℕ) (xs : List A) → ((k : ℕ) (x : A) → P k x → Q x) → EachFrom P n xs → All Q xs
+  each_all P Q n [] f h = All-nil Q
+  each_all P Q n (x ∷ xs) f h = All-cons Q x xs (f n x h.0) (each_all P Q (suc n) xs f h.1)
 
   -- the element behind the first ones
   pub each_at : (P : ℕ → A → Type 0) (n : ℕ) (xs ys : List A) (x : A) → EachFrom P n (xs ++ x ∷ ys) → P (n + length xs) x
@@ -31,6 +36,13 @@ room_step (x ∷ xs) (suc i) part row h e = room_step xs i part row (omega arith
 pub length-rows_of : (needs : List (Vec Needs)) → length (rows_of needs) ≡ length needs
 length-rows_of [] = refl
 length-rows_of (x ∷ xs) = ap suc (length-rows_of xs)
+
+-- n values so far, each as P says of its place, in a list with this room
+pub record IsSoFar {A : Type 0} (P : ℕ → A → Type 0) (room n : ℕ) (made : Vec A) : Type 0 where
+  pub each : EachFrom P 0 made.items
+  pub items : length made.items ≡ n
+  pub count : vec_len made ≡ n
+  pub roomy : room ≤ vec_capacity made
 
 pub so_far_push : {A : Type 0} (P : ℕ → A → Type 0) (room n : ℕ) (made new : Vec A) (x : A) → IsSoFar P room n made → P n x → new.items ≡ made.items ++ x ∷ [] → vec_len new ≡ vec_len made + 1 → vec_capacity made ≤ vec_capacity new → IsSoFar P room (n + 1) new
 so_far_push P room n made new x s p items len cap = record {

@@ -11,7 +11,7 @@ use Rattle.pg_book.specs.declared.view.View.{View}
 use Rattle.pg_book.specs.Needs.{parts_of, names_of, all_entries}
 use Rattle.pg_book.specs.Lists.{Among, IsPrefix}
 use Rattle.pg_book.specs.Views.{blank, name_at, list_at, Holds, Stands, IsListOf, Sound}
-use Rattle.pg_book.specs.Kinds.{first, note, let_go}
+use Rattle.pg_book.specs.Kinds.{first, note, not_held}
 use Rattle.pg_book.specs.Rule.{Truth, Fits, Kept}
 use Rattle.pg_book.proofs.ListFacts.{prefix_nil}
 use Rattle.pg_book.proofs.ViewFacts.{get_or-replicated, note_name, note_list, note_holds, due_stands}
@@ -33,11 +33,11 @@ module _ {E : Type 0} where
   pub first_sound : (needs : List (List Needs)) → all_entries needs < 2 ^ 63 → Sound (first {E = E} needs)
   first_sound needs small = record {
     live = refl;
-    told = refl;
+    same_needs = refl;
     small = small;
     whole = length-replicate (names_of needs) blank;
     former = λ k. subst (λ (n : Name E). IsPrefix n.former n.list) (sym (first_name needs k)) (prefix_nil []);
-    heard = λ k. subst (λ (n : Name E). IsPrefix n.heard n.list) (sym (first_name needs k)) (prefix_nil []);
+    former_other = λ k. subst (λ (n : Name E). IsPrefix n.former_other n.list) (sym (first_name needs k)) (prefix_nil []);
     lists = λ k. subst (IsListOf needs 0 k) (sym (first_list needs k)) record { rising = tt; below = λ r a. absurd a; of_part = λ r h a. absurd a; callers = λ r h a. absurd a; within = λ c h. omega arith };
     callers = λ c r a. absurd (none_among needs _ r a);
     due = λ r e. absurd (cc);
@@ -81,11 +81,11 @@ module _ {E : Type 0} where
   pub note_sound : (v : View E) → Sound v → Sound (note v)
   note_sound v s = record {
     live = s.live;
-    told = refl;
+    same_needs = refl;
     small = s.small;
-    whole = length-let_go v.names ∙ s.whole;
+    whole = length-not_held v.names ∙ s.whole;
     former = λ k. subst (λ (n : Name E). IsPrefix n.former n.list) (sym (note_name v k)) (prefix_nil _);
-    heard = λ k. subst (λ (n : Name E). IsPrefix n.heard n.list) (sym (note_name v k)) (prefix_nil _);
+    former_other = λ k. subst (λ (n : Name E). IsPrefix n.former_other n.list) (sym (note_name v k)) (prefix_nil _);
     lists = λ k. subst (IsListOf v.needs v.floor k) (sym (note_list v k)) (s.lists k);
     callers = λ c r a. let k = s.callers c r (subst (Among r) (note_list v (parts_of v.needs + c)) a) in (k.0, stands r k.1);
     due = λ r e. absurd (cc);
@@ -93,9 +93,9 @@ module _ {E : Type 0} where
     settled = λ k r h held a. absurd (note_holds v k held);
   }
     where
-      length-let_go : (names : List (Name E)) → length (map let_go names) ≡ length names
-      length-let_go [] = refl
-      length-let_go (x ∷ xs) = ap suc (length-let_go xs)
+      length-not_held : (names : List (Name E)) → length (map not_held names) ≡ length names
+      length-not_held [] = refl
+      length-not_held (x ∷ xs) = ap suc (length-not_held xs)
 
       stands : (r : Receipt E) → Stands v r → Stands (note v) r
       stands r h = record { part = h.part; there = subst (Among r) (sym (note_list v r.part)) h.there }

@@ -6,9 +6,8 @@ use Rattle.pg_book.specs.declared.needs.Needs.{Needs}
 use Rattle.pg_book.specs.declared.receipt.Receipt.{Receipt}
 use Rattle.pg_book.specs.Needs.{parts_of, entries_at, row_entries, all_entries, nothing_needed}
 use Rattle.pg_book.specs.Knowing.{HasRoom}
-use Rattle.pg_book.specs.Models.{SpineOf, PassOf, BookOf, pass_receipts}
+use Rattle.pg_book.specs.Models.{SpineOf, PassOf, BookOf, pass_receipts, IsSpineAt, IsPassAt}
 use Rattle.pg_book.specs.Opening.{EachFrom, IsOpenable, IsOpened, IsNewSpine, IsNewPass}
-use Rattle.pg_book.specs.Closing.{IsSpineAt, IsPassAt}
 use Rattle.pg_book.specs.Outcomes.{Draws}
 use Rattle.pg_book.specs.Trials.{IsRun, HasRoomFor, IsDrawing, evenly}
 use Rattle.pg_book.proofs.Placing.{each_map}
@@ -75,8 +74,8 @@ length-filter_le test (x ∷ xs) = pick (test x) (length-filter_le test xs)
 module _ {E : Type 0} where
   pub run_begins : (needs : List (List Needs)) (book : BookOf E) (spines : List (SpineOf E)) (passes : List (PassOf E)) → IsOpened needs book spines passes → IsRun book 0 spines passes
   run_begins needs book spines passes o = record {
-    spines_are = record { count = o.spine_count ∙ ap parts_of (sym o.knows.needs_are); each = each_map (IsNewSpine needs book.book) (IsSpineAt book.book) 0 spines (λ k s x. record { same_book = x.same_book; is_part = x.is_part }) o.spines_are };
-    passes_are = record { count = o.pass_count ∙ ap length (sym o.knows.needs_are); each = each_map (IsNewPass needs book.book) (IsPassAt book.book) 0 passes (λ k s x. record { same_book = x.same_book; is_caller = x.is_caller }) o.passes_are };
+    spines_are = record { count = o.spine_count ∙ ap parts_of (sym o.knows.needs_are); each = each_map (IsNewSpine needs book.book) (IsSpineAt book.book) 0 spines (λ k s x. x.place) o.spines_are };
+    passes_are = record { count = o.pass_count ∙ ap length (sym o.knows.needs_are); each = each_map (IsNewPass needs book.book) (IsPassAt book.book) 0 passes (λ k s x. x.place) o.passes_are };
     drawn = each_map (IsNewPass needs book.book) (λ c p. (p.view.needs ≡ book.view.needs) × (length (pass_receipts p) ≤ 0)) 0 passes (λ k p x. (x.view.needs_are ∙ sym o.knows.needs_are, (let a = ap length (x.view.lists (parts_of p.view.needs + p.caller)) in omega arith))) o.passes_are;
   }
 
@@ -107,7 +106,7 @@ module _ {E : Type 0} where
       passes_are = record { count = length-set passes caller p' ∙ run.passes_are.count; each = each_set (IsPassAt book.book) 0 caller passes p' run.passes_are.each record { same_book = d.same_books.1 ∙ at_caller.same_book; is_caller = d.same_caller ∙ at_caller.is_caller ∙ omega arith } };
       drawn = each_set (λ c x. (x.view.needs ≡ book.view.needs) × (length (pass_receipts x) ≤ used + 1)) 0 caller passes p'
           (each_map (λ c x. (x.view.needs ≡ book.view.needs) × (length (pass_receipts x) ≤ used)) (λ c x. (x.view.needs ≡ book.view.needs) × (length (pass_receipts x) ≤ used + 1)) 0 passes (λ k x y. (y.0, (let l = y.1 in omega arith))) run.drawn)
-          (d.pass_keeps.needs ∙ few.0, (let l = few.1 in let e = ap length d.pass_list in omega (arith, length-append (pass_receipts p) (r ∷ []))));
+          (d.pass_kept.needs ∙ few.0, (let l = few.1 in let e = ap length d.pass_list in omega (arith, length-append (pass_receipts p) (r ∷ []))));
     }
 
   module _ (book : TableId) (number : ℕ) (small : number < 100) (s : SpineOf E) (p : PassOf E) (first : IsSpineAt book 0 s) (d : IsDrawing book 100 number p) where
@@ -122,6 +121,6 @@ module _ {E : Type 0} where
     pub draws_on : (entry : E) (r : Receipt E) (s' : SpineOf E) (p' : PassOf E) → Draws s p entry r s' p' → IsDrawing book 100 (number + 1) p'
     draws_on entry r s' p' drew = record {
       same_book = drew.same_books.1 ∙ d.same_book;
-      room = subst (λ (x : List (List Needs) × ℕ). 100 ≤ entries_at x.0 x.1 0) (λ i. (sym drew.pass_keeps.needs i, sym drew.same_caller i)) d.room;
+      room = subst (λ (x : List (List Needs) × ℕ). 100 ≤ entries_at x.0 x.1 0) (λ i. (sym drew.pass_kept.needs i, sym drew.same_caller i)) d.room;
       few = let l = d.few in let e = ap length drew.pass_list in omega (arith, length-append (pass_receipts p) (r ∷ []));
     }

@@ -7,7 +7,7 @@ use Rattle.pg_book.specs.declared.view.Name.{Name}
 use Rattle.pg_book.specs.declared.view.View.{View}
 use Rattle.pg_book.specs.Lists.{Among, IsPrefix}
 use Rattle.pg_book.specs.Views.{blank, name_at, list_at, Holds, Stands, IsDue}
-use Rattle.pg_book.specs.Kinds.{let_go, note, with_receipt}
+use Rattle.pg_book.specs.Kinds.{not_held, note, with_receipt}
 use Rattle.pg_book.proofs.ListFacts.{among_last, among_push, prefix_refl, prefix_push}
 
 pub nat_cases : (j k : ℕ) → (j ≡ k) ⊎ (j ≢ k)
@@ -32,13 +32,13 @@ module _ {A : Type 0} where
   get_or-replicated (suc n) (suc k) a = get_or-replicated n k a
 
 module _ {E : Type 0} where
-  get_or-let_go : (names : List (Name E)) (k : ℕ) → get_or (map let_go names) k blank ≡ let_go (get_or names k blank)
-  get_or-let_go [] k = refl
-  get_or-let_go (x ∷ xs) zero = refl
-  get_or-let_go (x ∷ xs) (suc k) = get_or-let_go xs k
+  get_or-not_held : (names : List (Name E)) (k : ℕ) → get_or (map not_held names) k blank ≡ not_held (get_or names k blank)
+  get_or-not_held [] k = refl
+  get_or-not_held (x ∷ xs) zero = refl
+  get_or-not_held (x ∷ xs) (suc k) = get_or-not_held xs k
 
-  pub note_name : (v : View E) (k : ℕ) → name_at (note v) k ≡ let_go (name_at v k)
-  note_name v k = get_or-let_go v.names k
+  pub note_name : (v : View E) (k : ℕ) → name_at (note v) k ≡ not_held (name_at v k)
+  note_name v k = get_or-not_held v.names k
 
   pub note_list : (v : View E) (k : ℕ) → list_at (note v) k ≡ list_at v k
   note_list v k = ap (λ (n : Name E). n.list) (note_name v k)
@@ -62,8 +62,8 @@ module _ {E : Type 0} where
     pub pushed_former : (j : ℕ) → (get_or now j blank).former ≡ (get_or names j blank).former
     pushed_former j = ⊎_elim (λ (e : j ≡ k). subst (λ (i : ℕ). (get_or now i blank).former ≡ (get_or names i blank).former) (sym e) (ap (λ (n : Name E). n.former) p.here)) (λ (n : j ≢ k). ap (λ (n : Name E). n.former) (p.else j n)) (nat_cases j k)
 
-    pub pushed_heard : (j : ℕ) → (get_or now j blank).heard ≡ (get_or names j blank).heard
-    pushed_heard j = ⊎_elim (λ (e : j ≡ k). subst (λ (i : ℕ). (get_or now i blank).heard ≡ (get_or names i blank).heard) (sym e) (ap (λ (n : Name E). n.heard) p.here)) (λ (n : j ≢ k). ap (λ (n : Name E). n.heard) (p.else j n)) (nat_cases j k)
+    pub pushed_former_other : (j : ℕ) → (get_or now j blank).former_other ≡ (get_or names j blank).former_other
+    pushed_former_other j = ⊎_elim (λ (e : j ≡ k). subst (λ (i : ℕ). (get_or now i blank).former_other ≡ (get_or names i blank).former_other) (sym e) (ap (λ (n : Name E). n.former_other) p.here)) (λ (n : j ≢ k). ap (λ (n : Name E). n.former_other) (p.else j n)) (nat_cases j k)
 
     pub pushed_here : (get_or now k blank).list ≡ (get_or names k blank).list ++ r ∷ []
     pushed_here = ap (λ (n : Name E). n.list) p.here

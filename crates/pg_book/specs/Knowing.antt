@@ -1,4 +1,4 @@
--- What a meeting and a draw leave of two views.
+-- What is known to a view, and what a draw leaves of two views.
 use Rattle.std.specs.Prelude.{◌≡◌, ℕ, ◌<◌, [], ◌∷◌, ◌++◌, length}
 use Rattle.pg_book.specs.declared.receipt.Receipt.{Receipt}
 use Rattle.pg_book.specs.declared.view.View.{View}
@@ -9,22 +9,14 @@ use Rattle.pg_book.specs.Kinds.{receipt_of}
 use Rattle.pg_book.specs.Models.{IsSpineView, IsPassView}
 
 module _ {E : Type 0} where
-  -- the second view knows all that the first knows: each of its lists begins with that of the first
-  pub record Knows (v w : View E) : Type 0 where
+  -- all that the first view knows is known to the second: each list of the second begins with that of the first
+  pub record IsKnownTo (v w : View E) : Type 0 where
     pub needs : w.needs ≡ v.needs
     pub lists : (k : ℕ) → IsPrefix (list_at v k) (list_at w k)
 
   -- the caller has fewer entries on the part than it needs there
   abbrev pub HasRoom : ℕ → ℕ → View E → Type 0
   HasRoom part caller p = length (of_part part (caller_list p caller)) < entries_at p.needs caller part
-
-  -- What a meeting leaves: the pass knows all that it and the spine knew, and its own list is as it was
-  pub record HasMet (part caller : ℕ) (s p q : View E) : Type 0 where
-    pub view : IsPassView caller q
-    pub kept : Knows p q
-    pub told : Knows s q
-    pub own : caller_list q caller ≡ caller_list p caller
-    pub met : (r : Receipt E) → Among r (list_at s part) → r.caller ≡ caller → Among r (caller_list q caller)
 
   -- What a draw leaves: there was room, the stamp is above all of both lists, which grow by the receipt, and each of the two knows all that both knew
   pub record HasDrawn (part caller : ℕ) (entry : E) (stamp : ℕ) (s p t q : View E) : Type 0 where
@@ -35,7 +27,7 @@ module _ {E : Type 0} where
     pub above_pass : (r : Receipt E) → Among r (caller_list p caller) → r.stamp < stamp
     pub spine_list : list_at t part ≡ list_at s part ++ receipt_of part caller entry stamp ∷ []
     pub pass_list : caller_list q caller ≡ caller_list p caller ++ receipt_of part caller entry stamp ∷ []
-    pub spine_kept : Knows s t
-    pub spine_told : Knows p t
-    pub pass_kept : Knows p q
-    pub pass_told : Knows s q
+    pub spine_kept : IsKnownTo s t
+    pub spine_told : IsKnownTo p t
+    pub pass_kept : IsKnownTo p q
+    pub pass_told : IsKnownTo s q

@@ -9,8 +9,8 @@ pub mod Models
 pub mod Knowing
 pub mod Outcomes
 pub mod Opening
-pub mod Laid
-pub mod Adding
+pub mod Prepared
 pub mod Fails
+pub mod Gathering
 pub mod Closing
 pub mod Trials

@@ -1,9 +1,10 @@
 -- What contracts see of a spine, a pass and a book: which book it is, its number, and what it knows.
-use Rattle.std.specs.Prelude.{◌≡◌, ℕ, ◌<◌, List, length, None}
+use Rattle.std.specs.Prelude.{◌≡◌, ℕ, ◌<◌, ◌≤◌, List, length, None, vec_len, vec_capacity}
+use Rattle.std.specs.Global.{Vec}
 use Rattle.atomic_table.specs.Seated.{TableId}
 use Rattle.pg_book.specs.declared.receipt.Receipt.{Receipt}
 use Rattle.pg_book.specs.declared.view.View.{View}
-use Rattle.pg_book.specs.Needs.{parts_of}
+use Rattle.pg_book.specs.Needs.{parts_of, part_entries}
 use Rattle.pg_book.specs.Views.{list_at, caller_name, caller_list, Holds, Sound}
 
 pub record SpineOf (E : Type 0) : Type 0 where
@@ -29,6 +30,16 @@ module _ {E : Type 0} where
   abbrev pub pass_receipts : PassOf E → List (Receipt E)
   pass_receipts p = caller_list p.view p.caller
 
+  -- a spine of the book with this part
+  pub record IsSpineAt (book : TableId) (part : ℕ) (s : SpineOf E) : Type 0 where
+    pub same_book : s.book ≡ book
+    pub is_part : s.part ≡ part
+
+  -- a pass of the book with this caller number
+  pub record IsPassAt (book : TableId) (caller : ℕ) (p : PassOf E) : Type 0 where
+    pub same_book : p.book ≡ book
+    pub is_caller : p.caller ≡ caller
+
   -- between calls nothing is due or sent
   pub record IsReady (v : View E) : Type 0 where
     pub sound : Sound v
@@ -42,6 +53,12 @@ module _ {E : Type 0} where
     pub holds : Holds v part
     pub only : (k : ℕ) → Holds v k → k ≡ part
 
+  -- the receipts of the part that the view knows, in a vector with room for all entries that callers need there
+  pub record AreReceiptsOf (part : ℕ) (v : View E) (receipts : Vec (Receipt E)) : Type 0 where
+    pub items : receipts.items ≡ list_at v part
+    pub count : vec_len receipts ≡ length (list_at v part)
+    pub room : part_entries v.needs part ≤ vec_capacity receipts
+
   -- the view holds the caller, and nothing else
   pub record IsPassView (caller : ℕ) (v : View E) : Type 0 where
     pub ready : IsReady v
@@ -49,6 +66,7 @@ module _ {E : Type 0} where
     pub holds : Holds v (caller_name v caller)
     pub only : (k : ℕ) → Holds v k → k ≡ caller_name v caller
 
+  -- the view holds no name
   pub record IsBookView (v : View E) : Type 0 where
     pub ready : IsReady v
     pub nothing : (k : ℕ) → Holds v k → ⊥

@@ -5,7 +5,7 @@ use Rattle.pg_book.specs.declared.needs.Needs.{Needs}
 use Rattle.pg_book.specs.declared.view.View.{View}
 use Rattle.pg_book.specs.Needs.{parts_of, all_entries}
 use Rattle.pg_book.specs.Views.{list_at}
-use Rattle.pg_book.specs.Models.{SpineOf, PassOf, BookOf}
+use Rattle.pg_book.specs.Models.{SpineOf, PassOf, BookOf, IsSpineAt, IsPassAt}
 
 -- P of each element and its place, where the first has the place n
 abbrev pub EachFrom : {A : Type 0} → (ℕ → A → Type 0) → ℕ → List A → Type 0
@@ -28,14 +28,12 @@ module _ {E : Type 0} where
 
   -- a spine of the book with this part, on which nothing was drawn
   pub record IsNewSpine (needs : List (List Needs)) (book : TableId) (part : ℕ) (s : SpineOf E) : Type 0 where
-    pub same_book : s.book ≡ book
-    pub is_part : s.part ≡ part
+    pub place : IsSpineAt book part s
     pub view : KnowsNothing needs s.view
 
   -- a pass of the book with this caller number, which drew nothing
   pub record IsNewPass (needs : List (List Needs)) (book : TableId) (caller : ℕ) (p : PassOf E) : Type 0 where
-    pub same_book : p.book ≡ book
-    pub is_caller : p.caller ≡ caller
+    pub place : IsPassAt book caller p
     pub view : KnowsNothing needs p.view
 
   -- A book with one spine for each part and one pass for each caller, each at the place of its number

@@ -1,10 +1,10 @@
 -- What `meet` and `draw` do, in terms of the spine, the pass and the receipt.
-use Rattle.std.specs.Prelude.{◌≡◌, ◌<◌, [], ◌∷◌, ◌++◌}
+use Rattle.std.specs.Prelude.{◌≡◌, ℕ, ◌<◌, [], ◌∷◌, ◌++◌}
 use Rattle.pg_book.specs.declared.receipt.Receipt.{Receipt}
 use Rattle.pg_book.specs.Lists.{Among}
 use Rattle.pg_book.specs.Views.{list_at}
 use Rattle.pg_book.specs.Models.{SpineOf, PassOf, spine_receipts, pass_receipts}
-use Rattle.pg_book.specs.Knowing.{Knows}
+use Rattle.pg_book.specs.Knowing.{IsKnownTo}
 
 module _ {E : Type 0} where
   -- After a meeting the pass has its own list as it was, knows all that both knew, and has each receipt of its caller that stands in the spine's list
@@ -12,8 +12,8 @@ module _ {E : Type 0} where
     pub same_book : after.book ≡ before.book
     pub same_caller : after.caller ≡ before.caller
     pub same_receipts : pass_receipts after ≡ pass_receipts before
-    pub keeps : Knows before.view after.view
-    pub hears : Knows spine.view after.view
+    pub kept : IsKnownTo before.view after.view
+    pub told : IsKnownTo spine.view after.view
     pub own : (r : Receipt E) → Among r (spine_receipts spine) → r.caller ≡ after.caller → Among r (pass_receipts after)
 
   -- A draw answers a receipt of the spine's part, the pass's caller and the entry, with a stamp above all stamps of both lists. Both lists grow by it, and both know all that both knew
@@ -28,9 +28,9 @@ module _ {E : Type 0} where
     pub above_pass : (r : Receipt E) → Among r (pass_receipts pass) → r.stamp < receipt.stamp
     pub spine_list : spine_receipts spine_after ≡ spine_receipts spine ++ receipt ∷ []
     pub pass_list : pass_receipts pass_after ≡ pass_receipts pass ++ receipt ∷ []
-    pub spine_keeps : Knows spine.view spine_after.view
-    pub spine_hears : Knows pass.view spine_after.view
-    -- what the pass knew of the spine's own part stands in the spine's list
-    pub own_part : (r : Receipt E) → Among r (list_at pass.view spine.part) → Among r (spine_receipts spine_after)
-    pub pass_keeps : Knows pass.view pass_after.view
-    pub pass_hears : Knows spine.view pass_after.view
+    pub spine_kept : IsKnownTo spine.view spine_after.view
+    pub spine_told : IsKnownTo pass.view spine_after.view
+    -- each receipt of the spine's own part that the spine now knows stands in its list
+    pub own_part : (k : ℕ) (r : Receipt E) → Among r (list_at spine_after.view k) → r.part ≡ spine.part → Among r (spine_receipts spine_after)
+    pub pass_kept : IsKnownTo pass.view pass_after.view
+    pub pass_told : IsKnownTo spine.view pass_after.view

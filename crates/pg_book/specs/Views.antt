@@ -9,7 +9,7 @@ use Rattle.pg_book.specs.Lists.{Among, Rising, IsPrefix, of_caller}
 
 module _ {E : Type 0} where
   abbrev pub blank : Name E
-  blank = record { held = false; list = []; former = []; heard = [] }
+  blank = record { held = false; list = []; former = []; former_other = [] }
 
   abbrev pub name_at : View E → ℕ → Name E
   name_at v k = slice_index_or v.names k blank
@@ -50,11 +50,12 @@ module _ {E : Type 0} where
   -- what the rule says of one view alone
   pub record Sound (v : View E) : Type 0 where
     pub live : v.spent ≡ false
-    pub told : v.heard ≡ v.needs
+    pub same_needs : v.other_needs ≡ v.needs
     pub small : all_entries v.needs < 2 ^ 63
     pub whole : length v.names ≡ names_of v.needs
+    -- the lists that the two views of the last join had are beginnings of this view's
     pub former : (k : ℕ) → IsPrefix (name_at v k).former (list_at v k)
-    pub heard : (k : ℕ) → IsPrefix (name_at v k).heard (list_at v k)
+    pub former_other : (k : ℕ) → IsPrefix (name_at v k).former_other (list_at v k)
     pub lists : (k : ℕ) → IsListOf v.needs v.floor k (list_at v k)
     -- each receipt of a caller has that caller, and stands in its part's list
     pub callers : (caller : ℕ) (r : Receipt E) → Among r (caller_list v caller) → (r.caller ≡ caller) × Stands v r

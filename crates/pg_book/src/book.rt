@@ -4,15 +4,17 @@ use std::alloc::Global;
 use std::marker::Model;
 use std::sync::Arc;
 
-/// Why a book was not opened. `Found` comes only where the step that registers the name `wanted` read another
-/// number, `found`; `back` is what was handed in.
+/// Why a book was not opened.
 #[derive(Drop)]
 pub enum OpenFail<T> {
+    /// There was no memory. What was handed in does not come back.
     NoMemory,
+    /// The number of a name was wanted, and another was found. `wanted` is the number of a part, or the number of
+    /// parts plus that of a caller, and `found` differs from it. `back` is what was handed in.
     Found { back: T, wanted: u64, found: u64 },
 }
 
-/// A book, which is closed with all its spines and passes.
+/// An open book. It is closed with all its spines and passes.
 #[derive(Drop)]
 pub struct Book<E> {
     pub(crate) table: Arc<BookTable<E>, Global>,
@@ -30,5 +32,8 @@ impl<E> Model for Book<E> {
 
     ghost view = { λ b. record { book = b.seat.table_id; view = b.seat.me.0 } };
 
-    ghost invariant = { λ b. IsSeatOf (arc_value b.table).shared.table_id b.seat.table_id × (b.seat.me.1 ≡ []) × IsBookView b.seat.me.0 };
+    ghost invariant = { λ b.
+        IsSeatOf (arc_value b.table).shared.table_id b.seat.table_id
+        × (b.seat.me.1 ≡ [])
+        × IsBookView b.seat.me.0 };
 }

@@ -2,7 +2,9 @@
 ghost use Rattle.std.specs.Prelude.{◌≡◌, ◌+◌, ◌≤◌, ◌∷◌, ◌++◌, [], false, length, map, None, vec_len, vec_capacity, IfSome, IfOk, IfErr, IsPermutation};
 ghost use Rattle.pg_book.specs.Kinds.{joined};
 ghost use Rattle.pg_book.specs.Steps.{IsSeatOf, HasLooked};
-ghost use Rattle.pg_book.specs.Closing.{stamped, flat, TakesSpine, TakesPass, Gathered, IsSpineAt, IsPassAt, spine_views, HasParts, TakesPasses, AreSpinesOf, ArePassesOf, IsHistory};
+ghost use Rattle.pg_book.specs.Models.{IsSpineAt, IsPassAt};
+ghost use Rattle.pg_book.specs.Gathering.{TakesSpine, TakesPass, Gathered, spine_views, HasParts, TakesPasses};
+ghost use Rattle.pg_book.specs.Closing.{stamped, flat, AreSpinesOf, ArePassesOf, IsHistory};
 ghost use Rattle.std.specs.List.Sorted.{IsNonDecreasingBy};
 ghost use Rattle.pg_book.specs.Opening.{EachFrom};
 
@@ -13,11 +15,14 @@ use crate::rule::{BookSeat, BookShared};
 use crate::spine::Spine;
 use crate::steps::{look, take_in};
 
-/// There was no memory to close the book. All comes back untouched.
+/// There was no memory to close the book. All comes back as it was handed in.
 #[derive(Drop)]
 pub struct CloseRefused<E> {
+    /// The book, which is still open.
     pub book: Book<E>,
+    /// Its spines, in the order in which they were handed in.
     pub spines: Vec<Spine<E>>,
+    /// Its passes, in the order in which they were handed in.
     pub passes: Vec<Pass<E>>,
 }
 
@@ -86,7 +91,7 @@ fn take_spine<E: Drop>(
     requires seat { IsSeatOf shared.now.table_id seat.old.table_id × (seat.old.me.1 ≡ []) }
     requires spine { spine.book ≡ seat.old.table_id }
     requires room { vec_len entries.old + length (flat (spine ∷ [])) ≤ vec_capacity entries.old }
-    requires gathered { (seat.old.me.0.spent ≡ false) }
+    requires live { seat.old.me.0.spent ≡ false }
     ensures same { (seat.new.table_id ≡ seat.old.table_id) × (seat.new.me.1 ≡ []) }
     ensures view { TakesSpine spine seat.old.me.0 seat.new.me.0 }
     ensures items { entries.new.items ≡ entries.old.items ++ map stamped (flat (spine ∷ [])) }
@@ -106,7 +111,7 @@ fn take_spine<E: Drop>(
 fn take_pass<E: Drop>(shared: &BookShared<E>, seat: &mut BookSeat<E>, pass: Pass<E>)
     requires seat { IsSeatOf shared.now.table_id seat.old.table_id × (seat.old.me.1 ≡ []) }
     requires pass { pass.book ≡ seat.old.table_id }
-    requires gathered { (seat.old.me.0.spent ≡ false) }
+    requires live { seat.old.me.0.spent ≡ false }
     ensures same { (seat.new.table_id ≡ seat.old.table_id) × (seat.new.me.1 ≡ []) }
     ensures view { TakesPass pass seat.old.me.0 seat.new.me.0 }
 {
@@ -162,8 +167,16 @@ fn in_order<E: Drop>(mut entries: Vec<Stamped<E>>) -> Vec<Stamped<E>>
 }
 
 impl<E: Drop> Book<E> {
-    /// Closes the book with all its spines and passes, and gives all entries in the order of their stamps, which
-    /// are 0, 1 and so on. It is refused only for want of memory, and then all comes back untouched.
+    /// Closes the book with all its spines and passes: the k-th spine has part k, and the k-th pass caller number k,
+    /// both counted from 0.
+    ///
+    /// It gives all entries in the order of their stamps, which are 0 to n - 1 for n entries. Each entry's part is
+    /// that of a spine, and its caller that of a pass. The entries of a part are its spine's list, and those of a
+    /// caller its pass's list in its order. The entry of each receipt that a spine or a pass knows stands at its
+    /// stamp.
+    ///
+    /// It is refused for want of memory, and then the book, the spines and the passes come back as they were handed
+    /// in.
     pub fn close(
         self,
         spines: Vec<Spine<E>>,

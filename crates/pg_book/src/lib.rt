@@ -1,7 +1,7 @@
 //! The call book: one order of all events of a run.
 //!
-//! A book has a spine for each part and a pass for each caller. `Spine::draw` enters an event with the next stamp,
-//! in one atomic step, and `Book::close` gives all entries in the order of their stamps.
+//! A book has a spine for each part and a pass for each caller. `Spine::draw` enters an event with a stamp above all
+//! that its part and its caller have, and `Book::close` gives all entries in the order of their stamps.
 #![tactic(auto)]
 
 mod book;

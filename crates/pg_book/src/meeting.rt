@@ -1,5 +1,5 @@
 // Meetings of two seats: a note of one is taken in by the other.
-ghost use Rattle.std.specs.Prelude.{◌≡◌, ◌<◌, ◌≤◌, false};
+ghost use Rattle.std.specs.Prelude.{◌≡◌, false};
 ghost use Rattle.pg_book.specs.Kinds.{note, joined};
 ghost use Rattle.pg_book.specs.Steps.{IsSeatOf, HasLooked};
 ghost use Rattle.pg_book.specs.Models.{IsSpineView, IsPassView};
@@ -33,7 +33,7 @@ pub fn tell<E>(shared: &BookShared<E>, from: &mut BookSeat<E>, to: &mut BookSeat
     look(shared, to);
 }
 
-// A draw: each hears of the other, the stamp is drawn, and each hears of it.
+// A draw: each takes in what the other knows, the spine draws the stamp, and each takes in what the other knows again.
 pub fn draw_between<E>(
     shared: &BookShared<E>,
     spine: &mut BookSeat<E>,

@@ -1,5 +1,5 @@
 // How a book is opened: all memory first, and then each name in its turn.
-ghost use Rattle.std.specs.Prelude.{◌≡◌, ◌≢◌, ◌+◌, ◌<◌, ◌≤◌, ◌^◌, ℕ, false, [], length, slice_index_or, vec_len, vec_capacity, IfOk, IfErr};
+ghost use Rattle.std.specs.Prelude.{◌≡◌, ◌≢◌, ◌+◌, ◌<◌, ◌≤◌, ◌^◌, false, [], length, slice_index_or, vec_len, vec_capacity, IfOk, IfErr};
 ghost use Rattle.std.specs.Arc.{arc_value};
 ghost use Rattle.pg_book.specs.Needs.{rows, rows_of, parts_of, names_of, all_entries, part_entries, nothing_needed};
 ghost use Rattle.pg_book.specs.Kinds.{first, note, named};
@@ -7,7 +7,7 @@ ghost use Rattle.pg_book.specs.Views.{Sound};
 ghost use Rattle.pg_book.specs.Steps.{IsSeatOf};
 ghost use Rattle.pg_book.specs.Opening.{EachFrom, IsOpenable, IsOpened, IsNewSpine, IsNewPass};
 ghost use Rattle.pg_book.specs.Fails.{IsFoundOnly};
-ghost use Rattle.pg_book.specs.Laid.{IsStand, IsLaid, IsFirst, IsMissed};
+ghost use Rattle.pg_book.specs.Prepared.{IsPartRoom, IsPrepared, IsFirst, IsMissed};
 
 use crate::book::{Book, OpenFail};
 use crate::needs::{AllNeeds, Needs};
@@ -21,7 +21,7 @@ use std::sync::Arc;
 
 // Room for the entries of one part.
 #[derive(Drop)]
-struct Stand<E> {
+struct PartRoom<E> {
     table: Arc<BookTable<E>, Global>,
     receipts: Vec<Receipt<E>>,
 }
@@ -77,75 +77,83 @@ fn seat_of<E>(
     }
 }
 
-fn one_stand<E: Drop>(
+fn part_room<E: Drop>(
     alloc: Global,
     table: &Arc<BookTable<E>, Global>,
     room: u64,
-) -> Result<Stand<E>, AllocError>
-    ensures { IfOk result (λ s. IsStand (arc_value table.now).shared.table_id room s) }
+) -> Result<PartRoom<E>, AllocError>
+    ensures { IfOk result (λ r. IsPartRoom (arc_value table.now).shared.table_id room r) }
 {
-    Ok(Stand {
+    Ok(PartRoom {
         table: Arc::try_clone(table)?,
         receipts: Vec::with_capacity(alloc, room as usize)?,
     })
 }
 
 // Room for each part.
-fn all_stands<E: Drop>(
+fn part_rooms<E: Drop>(
     alloc: Global,
     table: &Arc<BookTable<E>, Global>,
     needs: &[Vec<Needs>],
     parts: usize,
-) -> Result<Vec<Stand<E>>, AllocError>
+) -> Result<Vec<PartRoom<E>>, AllocError>
     requires { all_entries (rows_of needs.now) < 2 ^ 63 }
     ensures count { IfOk result (λ v. length v.items ≡ parts) }
-    ensures each { IfOk result (λ v. EachFrom (λ k s. IsStand (arc_value table.now).shared.table_id (part_entries (rows_of needs.now) k) s) 0 v.items) }
+    ensures each { IfOk result (λ v. EachFrom (λ k r. IsPartRoom (arc_value table.now).shared.table_id (part_entries (rows_of needs.now) k) r) 0 v.items) }
 {
     let mut all = Vec::new(alloc);
     for part in 0..parts {
-        all.push(one_stand(alloc, table, room_of(needs, part))?)?;
+        all.push(part_room(alloc, table, room_of(needs, part))?)?;
     }
     Ok(all)
 }
 
-// What a book stands on, with all memory that its spines and passes need.
+// The table of a book and its first seat, with all memory that its spines and passes need.
 #[derive(Drop)]
-struct Laid<E> {
+struct Prepared<E> {
     table: Arc<BookTable<E>, Global>,
     seat: BookSeat<E>,
-    stands: Vec<Stand<E>>,
+    rooms: Vec<PartRoom<E>>,
     spines: Vec<Spine<E>>,
     passes: Vec<Pass<E>>,
 }
 
-fn lay<E: Drop>(alloc: Global, needs: &AllNeeds, parts: usize) -> Result<Laid<E>, AllocError>
+fn prepare<E: Drop>(
+    alloc: Global,
+    needs: &AllNeeds,
+    parts: usize,
+) -> Result<Prepared<E>, AllocError>
     requires parts { parts ≡ parts_of (rows needs.now) }
     requires small { all_entries (rows needs.now) < 2 ^ 63 }
-    ensures { IfOk result (λ l. IsLaid (rows needs.now) l) }
+    ensures { IfOk result (IsPrepared (rows needs.now)) }
 {
     let (table, seat) = BookTable::of_words(alloc, &[0, 0], needs)?;
     let table = Arc::new(alloc, table)?;
-    let stands = all_stands(alloc, &table, needs.as_slice(), parts)?;
-    Ok(Laid {
+    let rooms = part_rooms(alloc, &table, needs.as_slice(), parts)?;
+    Ok(Prepared {
         table,
         seat,
-        stands,
+        rooms,
         spines: Vec::with_capacity(alloc, parts)?,
         passes: Vec::with_capacity(alloc, needs.len())?,
     })
 }
 
-fn spine_of<E: Drop>(stand: Stand<E>, seat: &mut BookSeat<E>, part: u32) -> Result<Spine<E>, Missed>
+fn spine_of<E: Drop>(
+    room: PartRoom<E>,
+    seat: &mut BookSeat<E>,
+    part: u32,
+) -> Result<Spine<E>, Missed>
     requires view { IsFirst seat.old.me }
     requires words { seat.old.table_id.words ≡ 2 }
-    requires stand { IsStand seat.old.table_id (part_entries seat.old.me.0.needs part) stand }
+    requires room { IsPartRoom seat.old.table_id (part_entries seat.old.me.0.needs part) room }
     requires part { part < parts_of seat.old.me.0.needs }
     ensures same { (seat.new.table_id ≡ seat.old.table_id) × (seat.new.me ≡ seat.old.me) }
     ensures ok { IfOk result (IsNewSpine seat.old.me.0.needs seat.old.table_id part) }
     ensures err { IfErr result (IsMissed seat.old.me.0.needs) }
 {
-    let made = seat_of(&stand.table.shared, seat, u64::from(part))?;
-    let Stand { table, receipts } = stand;
+    let made = seat_of(&room.table.shared, seat, u64::from(part))?;
+    let PartRoom { table, receipts } = room;
     Ok(Spine {
         table,
         seat: made,
@@ -178,12 +186,12 @@ fn pass_of<E: Drop>(
 // A spine for each part, in the order of the parts.
 fn add_spines<E: Drop>(
     seat: &mut BookSeat<E>,
-    stands: Vec<Stand<E>>,
+    rooms: Vec<PartRoom<E>>,
     mut spines: Vec<Spine<E>>,
 ) -> Result<Vec<Spine<E>>, Missed>
     requires view { IsFirst seat.old.me }
     requires words { seat.old.table_id.words ≡ 2 }
-    requires stands { (length stands.items ≡ parts_of seat.old.me.0.needs) × EachFrom (λ k s. IsStand seat.old.table_id (part_entries seat.old.me.0.needs k) s) 0 stands.items }
+    requires rooms { (length rooms.items ≡ parts_of seat.old.me.0.needs) × EachFrom (λ k r. IsPartRoom seat.old.table_id (part_entries seat.old.me.0.needs k) r) 0 rooms.items }
     requires small { parts_of seat.old.me.0.needs < 2 ^ 32 }
     requires empty { (spines.items ≡ []) × (vec_len spines ≡ 0) × (parts_of seat.old.me.0.needs ≤ vec_capacity spines) }
     ensures same { (seat.new.table_id ≡ seat.old.table_id) × (seat.new.me ≡ seat.old.me) }
@@ -191,8 +199,8 @@ fn add_spines<E: Drop>(
     ensures err { IfErr result (IsMissed seat.old.me.0.needs) }
 {
     let mut part = 0;
-    for stand in stands {
-        let Ok(()) = spines.push(spine_of(stand, seat, part)?) else {
+    for room in rooms {
+        let Ok(()) = spines.push(spine_of(room, seat, part)?) else {
             unreachable!()
         };
         part += 1;
@@ -226,22 +234,28 @@ fn add_passes<E: Drop>(
 }
 
 impl<E: Drop> Book<E> {
-    /// Opens a book with one pass for each caller and one spine for each part, each at the place of its number. Room
-    /// for all entries is taken here, before the first name is registered.
+    /// Opens a book with one spine for each part and one pass for each caller, on which nothing was drawn: the k-th
+    /// spine has part k, and the k-th pass caller number k, both counted from 0.
+    ///
+    /// `needs` has a list for at least one caller, and an element for each part in each list. There are fewer than
+    /// 2^32 callers and fewer than 2^32 parts, and the entries of all elements sum to less than 2^63.
+    ///
+    /// There are two refusals. `NoMemory`: nothing comes back. `Found`: `needs` come back, with `wanted`, which is
+    /// below the number of parts and callers together, and another number, `found`.
     pub fn open(
         alloc: Global,
         needs: AllNeeds,
     ) -> Result<(Book<E>, Vec<Spine<E>>, Vec<Pass<E>>), OpenFail<AllNeeds>>
-        requires { IsOpenable (rows needs) }
+        requires openable { IsOpenable (rows needs) }
         ensures opened { IfOk result (λ r. IsOpened (rows needs) r.0 r.1.items r.2.items) }
         ensures found { IfErr result (IsFoundOnly needs (names_of (rows needs))) }
     {
         let callers = needs.len();
         let parts = parts_in(needs.as_slice());
-        let Ok(laid) = lay(alloc, &needs, parts) else {
+        let Ok(prepared) = prepare(alloc, &needs, parts) else {
             return Err(OpenFail::NoMemory);
         };
-        match fill(alloc, laid, parts as u64, callers as u32) {
+        match fill(alloc, prepared, parts as u64, callers as u32) {
             Ok(opened) => Ok(opened),
             Err(Missed { wanted, found }) => Err(OpenFail::Found {
                 back: needs,
@@ -264,25 +278,25 @@ fn parts_in(needs: &[Vec<Needs>]) -> usize
 // Registers all names, the parts first.
 fn fill<E: Drop>(
     alloc: Global,
-    laid: Laid<E>,
+    prepared: Prepared<E>,
     parts: u64,
     callers: u32,
 ) -> Result<(Book<E>, Vec<Spine<E>>, Vec<Pass<E>>), Missed>
-    requires laid { IsLaid laid.seat.me.0.needs laid }
-    requires small { all_entries laid.seat.me.0.needs < 2 ^ 63 }
-    requires parts { (parts ≡ parts_of laid.seat.me.0.needs) × (parts < 2 ^ 32) }
-    requires callers { callers ≡ length laid.seat.me.0.needs }
-    ensures ok { IfOk result (λ r. IsOpened laid.seat.me.0.needs r.0 r.1.items r.2.items) }
-    ensures err { IfErr result (IsMissed laid.seat.me.0.needs) }
+    requires prepared { IsPrepared prepared.seat.me.0.needs prepared }
+    requires small { all_entries prepared.seat.me.0.needs < 2 ^ 63 }
+    requires parts { (parts ≡ parts_of prepared.seat.me.0.needs) × (parts < 2 ^ 32) }
+    requires callers { callers ≡ length prepared.seat.me.0.needs }
+    ensures ok { IfOk result (λ r. IsOpened prepared.seat.me.0.needs r.0 r.1.items r.2.items) }
+    ensures err { IfErr result (IsMissed prepared.seat.me.0.needs) }
 {
-    let Laid {
+    let Prepared {
         table,
         mut seat,
-        stands,
+        rooms,
         spines,
         passes,
-    } = laid;
-    let spines = add_spines(&mut seat, stands, spines)?;
+    } = prepared;
+    let spines = add_spines(&mut seat, rooms, spines)?;
     let passes = add_passes(&table, &mut seat, parts, callers, passes)?;
     Ok((Book { table, seat, alloc }, spines, passes))
 }

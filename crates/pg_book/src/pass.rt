@@ -19,13 +19,16 @@ impl<E> Model for Pass<E> {
 
     ghost view = { λ p. record { book = p.seat.table_id; caller = p.number; view = p.seat.me.0 } };
 
-    ghost invariant = { λ p. (p.seat.me.1 ≡ []) × (p.seat.table_id.words ≡ 2) × IsPassView p.number p.seat.me.0 };
+    ghost invariant = { λ p.
+        (p.seat.me.1 ≡ [])
+        × (p.seat.table_id.words ≡ 2)
+        × IsPassView p.number p.seat.me.0 };
 }
 
 impl<E: Drop> Pass<E> {
     /// The caller's number, counted from 0.
     pub fn caller(&self) -> u32
-        ensures { result ≡ self.now.caller }
+        ensures number { result ≡ self.now.caller }
     {
         self.number
     }

@@ -17,9 +17,9 @@ impl<E> TableRule<(), View<E>, AllNeeds> for BookRule {
     ghost first = { λ needs. first (rows needs) };
 }
 
-pub struct Notes;
+pub struct SplitStep;
 
-impl<E> Split<View<E>> for Notes {
+impl<E> Split<View<E>> for SplitStep {
     ghost use Rattle.pg_book.specs.Kinds.{note};
 
     ghost left = { λ v. v };
@@ -27,27 +27,27 @@ impl<E> Split<View<E>> for Notes {
     ghost right = { note };
 }
 
-pub struct Meets;
+pub struct JoinStep;
 
-impl<E> Join<View<E>> for Meets {
-    ghost use Rattle.pg_book.specs.Kinds.{joined, nobody};
+impl<E> Join<View<E>> for JoinStep {
+    ghost use Rattle.pg_book.specs.Kinds.{joined, spent_view};
 
     ghost both = { joined };
 
-    ghost spent = { nobody };
+    ghost spent = { spent_view };
 }
 
-pub struct Registers;
+pub struct NameStep;
 
-impl<E> Play<(), View<E>> for Registers {
+impl<E> Play<(), View<E>> for NameStep {
     ghost use Rattle.pg_book.specs.Tells.{Registered};
 
     ghost then = { Registered };
 }
 
-pub struct Looks;
+pub struct PeekStep;
 
-impl<E> Play<(), View<E>> for Looks {
+impl<E> Play<(), View<E>> for PeekStep {
     ghost use Rattle.pg_book.specs.Tells.{Looked};
 
     ghost then = { Looked };
@@ -74,11 +74,11 @@ impl<E> Entered<E> for Brand {
     ghost entry = { None };
 }
 
-pub struct Draws<N> {
+pub struct DrawStep<N> {
     marker: PhantomData<N>,
 }
 
-impl<E, N: Entered<E>> Play<(), View<E>> for Draws<N> {
+impl<E, N: Entered<E>> Play<(), View<E>> for DrawStep<N> {
     ghost use Rattle.pg_book.specs.Tells.{DrewFor};
 
     ghost then = { DrewFor N.part N.caller N.entry };

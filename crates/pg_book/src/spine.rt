@@ -21,37 +21,56 @@ pub struct Spine<E> {
 }
 
 impl<E> Model for Spine<E> {
-    ghost use Rattle.std.specs.Prelude.{◌≡◌, ◌≤◌, [], length, vec_len, vec_capacity};
+    ghost use Rattle.std.specs.Prelude.{◌≡◌, []};
     ghost use Rattle.std.specs.Arc.{arc_value};
-    ghost use Rattle.pg_book.specs.Needs.{part_entries};
-    ghost use Rattle.pg_book.specs.Views.{list_at};
     ghost use Rattle.pg_book.specs.Steps.{IsSeatOf};
-    ghost use Rattle.pg_book.specs.Models.{SpineOf, IsSpineView};
+    ghost use Rattle.pg_book.specs.Models.{SpineOf, IsSpineView, AreReceiptsOf};
 
     ghost Value = { SpineOf E };
 
     ghost view = { λ s. record { book = s.seat.table_id; part = s.part; view = s.seat.me.0 } };
 
-    ghost invariant = { λ s. IsSeatOf (arc_value s.table).shared.table_id s.seat.table_id × (s.seat.me.1 ≡ []) × IsSpineView s.part s.seat.me.0 × (s.receipts.items ≡ list_at s.seat.me.0 s.part) × (vec_len s.receipts ≡ length (list_at s.seat.me.0 s.part)) × (part_entries s.seat.me.0.needs s.part ≤ vec_capacity s.receipts) };
+    ghost invariant = { λ s.
+        IsSeatOf (arc_value s.table).shared.table_id s.seat.table_id
+        × (s.seat.me.1 ≡ [])
+        × IsSpineView s.part s.seat.me.0
+        × AreReceiptsOf s.part s.seat.me.0 s.receipts };
 }
 
 impl<E: Drop> Spine<E> {
-    /// Lets the pass know all that the spine knows. It takes no memory, and draws no stamp.
+    /// The part's number, counted from 0.
+    pub fn part(&self) -> u32
+        ensures number { result ≡ self.now.part }
+    {
+        self.part
+    }
+
+    /// Lets the pass know all that the spine knows. The two are of the same book.
+    ///
+    /// The spine stays as it was. The pass keeps its book, its caller number and its list of receipts. It then knows
+    /// all that it knew and all that the spine knows, and each receipt of its caller in the spine's list stands in
+    /// its own list. It takes no memory.
     pub fn meet(&mut self, pass: &mut Pass<E>)
-        requires { self.old.book ≡ pass.old.book }
+        requires same_book { self.old.book ≡ pass.old.book }
         ensures spine { self.new ≡ self.old }
         ensures pass { Meets self.old pass.old pass.new }
     {
         tell(&self.table.shared, &mut self.seat, &mut pass.seat);
     }
 
-    /// Enters an event of the pass's caller on this part, with the next stamp. The spine keeps `entry`, and the
-    /// receipt has `twin`. It takes no memory.
+    /// Enters an event of the pass's caller on this part. The spine keeps `entry`, and the receipt has `twin`.
+    ///
+    /// The spine and the pass are of the same book, `twin` equals `entry`, and the pass has fewer receipts of this
+    /// part than its caller needs there (`entries` of `Needs`).
+    ///
+    /// The receipt's stamp is above all stamps in the spine's list and in the pass's list, and both lists grow by
+    /// the receipt. The spine and the pass each know then all that both knew before, and each receipt of this part
+    /// that the spine knows stands in its list. It takes no memory.
     pub fn draw(&mut self, pass: &mut Pass<E>, entry: E, twin: E) -> Receipt<E>
-        requires book { self.old.book ≡ pass.old.book }
+        requires same_book { self.old.book ≡ pass.old.book }
         requires twin { twin ≡ entry }
         requires room { HasRoom self.old.part pass.old.caller pass.old.view }
-        ensures { Draws self.old pass.old entry result self.new pass.new }
+        ensures drawn { Draws self.old pass.old entry result self.new pass.new }
     {
         let part = self.part;
         let caller = pass.number;

@@ -1,29 +1,35 @@
-ghost use Rattle.std.specs.Prelude.{◌≡◌, ◌+◌, ◌<◌, ◌≤◌, length, replicate, vec_len, IfOk};
+ghost use Rattle.std.specs.Prelude.{◌≡◌, ◌+◌, ◌<◌, ◌≤◌, [], ◌∷◌, length, replicate, vec_len, IfOk};
 ghost use Rattle.pg_book.specs.Needs.{rows};
 ghost use Rattle.pg_book.specs.Opening.{IsOpenable};
-ghost use Rattle.pg_book.specs.Closing.{IsSpineAt, IsPassAt};
+ghost use Rattle.pg_book.specs.Models.{IsSpineAt, IsPassAt};
 ghost use Rattle.pg_book.specs.Trials.{IsRun, HasRoomFor, IsDrawing, evenly};
 
-use crate::{AllNeeds, Book, Needs, Pass, Spine, Stamped};
+use crate::{AllNeeds, Book, Needs, OpenFail, Pass, Receipt, Spine, Stamped};
 use std::alloc::{AllocError, Global};
 use std::marker::{Brand, PhantomData};
 use std::sync::{Mutex, Wait};
 use std::test::Fail;
 use std::thread::{Threads, join};
 
+fn of_entries(entries: u64) -> Needs
+    ensures { result ≡ evenly entries }
+{
+    Needs {
+        entries,
+        regions: 0,
+        records: 0,
+        copies: 0,
+        blobs: 0,
+        numbers: 0,
+    }
+}
+
 fn row_of(alloc: Global, parts: usize, entries: u64) -> Result<Vec<Needs>, AllocError>
     ensures { IfOk result (λ v. v.items ≡ replicate parts (evenly entries)) }
 {
     let mut row = Vec::new(alloc);
     for _part in 0..parts {
-        row.push(Needs {
-            entries,
-            regions: 0,
-            records: 0,
-            copies: 0,
-            blobs: 0,
-            numbers: 0,
-        })?;
+        row.push(of_entries(entries))?;
     }
     Ok(row)
 }
@@ -84,13 +90,52 @@ fn history_of(
     book.close(spines, passes).ok()
 }
 
+// One caller, who needs two entries on part 0 and one on part 1.
+fn two_and_one(alloc: Global) -> Result<AllNeeds, AllocError>
+    ensures { IfOk result (λ v. rows v ≡ (evenly 2 ∷ evenly 1 ∷ []) ∷ []) }
+{
+    let mut row = row_of(alloc, 1, 2)?;
+    row.push(of_entries(1))?;
+    let mut all = Vec::new(alloc);
+    all.push(row)?;
+    Ok(all)
+}
+
+// The receipts of draws on the parts 0, 1 and 0, and the history.
+fn three_draws(
+    alloc: Global,
+    needs: AllNeeds,
+) -> Option<(Receipt<u64>, Receipt<u64>, Receipt<u64>, Vec<Stamped<u64>>)>
+    requires { rows needs ≡ (evenly 2 ∷ evenly 1 ∷ []) ∷ [] }
+{
+    let Ok((book, mut spines, mut passes)) = Book::open(alloc, needs) else {
+        return None;
+    };
+    if spines.len() != 2 || passes.len() != 1 {
+        return None;
+    }
+    let mut second = spines.pop()?;
+    let mut first = spines.pop()?;
+    let mut pass = passes.pop()?;
+    let a = first.draw(&mut pass, 10, 10);
+    let b = second.draw(&mut pass, 20, 20);
+    let c = first.draw(&mut pass, 30, 30);
+    spines.push(first).ok()?;
+    spines.push(second).ok()?;
+    passes.push(pass).ok()?;
+    let history = book.close(spines, passes).ok()?;
+    Some((a, b, c, history))
+}
+
 #[test]
 fn stamps_of_one_caller(rt: HostRuntime) -> Result<(), Fail> {
-    let needs = table(rt.alloc(), 1, 2, 3)?;
-    let draws = [(0, 0, 10), (1, 0, 20), (0, 0, 30)];
-    let Some(history) = history_of(rt.alloc(), needs, &draws) else {
+    let needs = two_and_one(rt.alloc())?;
+    let Some((a, b, c, history)) = three_draws(rt.alloc(), needs) else {
         panic!(rt; "the book was not opened, or not closed")
     };
+    assert_eq!(rt; (a.part, a.caller, a.stamp, a.entry), (0, 0, 0, 10));
+    assert_eq!(rt; (b.part, b.caller, b.stamp, b.entry), (1, 0, 1, 20));
+    assert_eq!(rt; (c.part, c.caller, c.stamp, c.entry), (0, 0, 2, 30));
     assert_eq!(rt; history.len(), 3);
     for (number, entry) in history.iter().enumerate() {
         assert!(rt; number < 3 && entry.stamp == number as u64 && entry.caller == 0);
@@ -116,7 +161,7 @@ fn eight_callers_and_eighty_one_parts(rt: HostRuntime) -> Result<(), Fail> {
     let mut draws = Vec::new(rt.alloc());
     for part in 0..81 {
         for caller in 0..8 {
-            draws.push((part, caller, 7u64))?;
+            draws.push((part, caller, (8 * part + caller) as u64))?;
         }
     }
     assert!(rt; draws.len() == 648);
@@ -125,13 +170,80 @@ fn eight_callers_and_eighty_one_parts(rt: HostRuntime) -> Result<(), Fail> {
     };
     assert_eq!(rt; history.len(), 648);
     for (number, entry) in history.iter().enumerate() {
-        assert_eq!(rt; entry.stamp as usize, number);
+        assert_eq!(rt;
+            (entry.stamp as usize, entry.entry as usize),
+            (number, number)
+        );
         assert_eq!(rt;
             (entry.part as usize, entry.caller as usize),
             (number / 8, number % 8)
         );
     }
     Ok(())
+}
+
+// The receipt of a draw of the first caller, which the second then meets; the numbers of the part and
+// of both callers; and the history.
+fn drawn_and_met(
+    alloc: Global,
+    needs: AllNeeds,
+) -> Option<(Receipt<u64>, (u32, u32, u32), Vec<Stamped<u64>>)>
+    requires openable { IsOpenable (rows needs) }
+    requires room { HasRoomFor (rows needs) 1 }
+{
+    let Ok((book, mut spines, mut passes)) = Book::open(alloc, needs) else {
+        return None;
+    };
+    if spines.len() != 1 || passes.len() != 2 {
+        return None;
+    }
+    let mut spine = spines.pop()?;
+    let mut second = passes.pop()?;
+    let mut first = passes.pop()?;
+    let receipt = spine.draw(&mut first, 5, 5);
+    spine.meet(&mut second);
+    let numbers = (spine.part(), first.caller(), second.caller());
+    spines.push(spine).ok()?;
+    passes.push(first).ok()?;
+    passes.push(second).ok()?;
+    let history = book.close(spines, passes).ok()?;
+    Some((receipt, numbers, history))
+}
+
+#[test]
+fn a_meeting_draws_nothing(rt: HostRuntime) -> Result<(), Fail> {
+    let needs = table(rt.alloc(), 2, 1, 1)?;
+    let Some((receipt, numbers, history)) = drawn_and_met(rt.alloc(), needs) else {
+        panic!(rt; "the book was not opened, or not closed")
+    };
+    assert_eq!(rt; numbers, (0, 0, 1));
+    assert_eq!(rt;
+        (receipt.part, receipt.caller, receipt.stamp, receipt.entry),
+        (0, 0, 0, 5)
+    );
+    assert_eq!(rt; history.len(), 1);
+    for entry in history.iter() {
+        assert_eq!(rt;
+            (entry.stamp, entry.part, entry.caller, entry.entry),
+            (0, 0, 0, 5)
+        );
+    }
+    Ok(())
+}
+
+#[test]
+fn an_ordinary_open_finds_its_names(rt: HostRuntime) -> Result<(), Fail> {
+    let needs = table(rt.alloc(), 3, 5, 2)?;
+    match Book::<u64>::open(rt.alloc(), needs) {
+        Ok((_book, spines, passes)) => {
+            assert_eq!(rt; (spines.len(), passes.len()), (5, 3));
+            Ok(())
+        }
+        Err(OpenFail::NoMemory) => panic!(rt; "no memory"),
+        Err(OpenFail::Found { wanted, found, .. }) => {
+            panic!(rt; "{found} was found where {wanted} was wanted")
+        }
+    }
 }
 
 // Which book it is. Each call picks it.

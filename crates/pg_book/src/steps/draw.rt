@@ -5,7 +5,7 @@ ghost use Rattle.pg_book.specs.Views.{Sound};
 ghost use Rattle.pg_book.specs.Tells.{MayDraw};
 ghost use Rattle.pg_book.specs.Steps.{IsSeatOf};
 
-use crate::rule::{BookSeat, BookShared, Draws, Entered};
+use crate::rule::{BookSeat, BookShared, DrawStep, Entered};
 use std::marker::Brand;
 
 fn draw_as<E, N: Entered<E>>(
@@ -24,7 +24,7 @@ fn draw_as<E, N: Entered<E>>(
     ensures floor { seat.old.me.0.floor ≤ result }
     ensures sound { Sound seat.new.me.0 }
 {
-    shared.fetch_add::<Draws<N>>(seat, 0, 1)
+    shared.fetch_add::<DrawStep<N>>(seat, 0, 1)
 }
 
 // The stamp of the entry, which is not below the floor.

@@ -3,7 +3,7 @@ ghost use Rattle.std.specs.Prelude.{◌≡◌, false, [], None};
 ghost use Rattle.pg_book.specs.Kinds.{joined};
 ghost use Rattle.pg_book.specs.Steps.{IsSeatOf};
 
-use crate::rule::{BookSeat, BookShared, Meets};
+use crate::rule::{BookSeat, BookShared, JoinStep};
 
 pub fn take_in<E>(shared: &BookShared<E>, seat: &mut BookSeat<E>, other: BookSeat<E>)
     requires seat { IsSeatOf shared.now.table_id seat.old.table_id }
@@ -13,5 +13,5 @@ pub fn take_in<E>(shared: &BookShared<E>, seat: &mut BookSeat<E>, other: BookSea
     ensures same { seat.new.table_id ≡ seat.old.table_id }
     ensures joined { seat.new.me ≡ (joined seat.old.me.0 other.me.0, seat.old.me.1) }
 {
-    shared.join_seat::<Meets>(seat, other);
+    shared.join_seat::<JoinStep>(seat, other);
 }

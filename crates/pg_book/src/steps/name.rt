@@ -5,7 +5,7 @@ ghost use Rattle.pg_book.specs.Kinds.{named};
 ghost use Rattle.pg_book.specs.Views.{Sound};
 ghost use Rattle.pg_book.specs.Steps.{IsSeatOf};
 
-use crate::rule::{BookSeat, BookShared, Registers};
+use crate::rule::{BookSeat, BookShared, NameStep};
 
 // The number that was found. Where it is the one that was wanted, the seat holds the name.
 pub fn register<E>(shared: &BookShared<E>, seat: &mut BookSeat<E>, wanted: u64) -> u64
@@ -17,5 +17,5 @@ pub fn register<E>(shared: &BookShared<E>, seat: &mut BookSeat<E>, wanted: u64) 
     ensures view { MatchBool (result == wanted) (seat.new.me.0 ≡ named seat.old.me.0 wanted) (seat.new.me.0 ≡ seat.old.me.0) }
     ensures sound { Sound seat.new.me.0 }
 {
-    shared.compare_exchange::<Registers>(seat, 1, wanted, wanted + 1)
+    shared.compare_exchange::<NameStep>(seat, 1, wanted, wanted + 1)
 }

@@ -2,7 +2,7 @@
 ghost use Rattle.std.specs.Prelude.{◌≡◌, false};
 ghost use Rattle.pg_book.specs.Steps.{IsSeatOf, HasLooked};
 
-use crate::rule::{BookSeat, BookShared, Looks};
+use crate::rule::{BookSeat, BookShared, PeekStep};
 
 pub fn look<E>(shared: &BookShared<E>, seat: &mut BookSeat<E>)
     requires seat { IsSeatOf shared.now.table_id seat.old.table_id }
@@ -10,5 +10,5 @@ pub fn look<E>(shared: &BookShared<E>, seat: &mut BookSeat<E>)
     ensures same { (seat.new.table_id ≡ seat.old.table_id) × (seat.new.me.1 ≡ seat.old.me.1) }
     ensures looked { HasLooked seat.old.me.0 seat.new.me.0 }
 {
-    let _ = shared.load::<Looks>(seat, 0);
+    let _ = shared.load::<PeekStep>(seat, 0);
 }

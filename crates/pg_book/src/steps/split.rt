@@ -3,7 +3,7 @@ ghost use Rattle.std.specs.Prelude.{◌≡◌, false, []};
 ghost use Rattle.pg_book.specs.Kinds.{note};
 ghost use Rattle.pg_book.specs.Steps.{IsSeatOf};
 
-use crate::rule::{BookSeat, BookShared, Notes};
+use crate::rule::{BookSeat, BookShared, SplitStep};
 
 pub fn note_of<E>(shared: &BookShared<E>, seat: &mut BookSeat<E>) -> BookSeat<E>
     requires seat { IsSeatOf shared.now.table_id seat.old.table_id }
@@ -12,5 +12,5 @@ pub fn note_of<E>(shared: &BookShared<E>, seat: &mut BookSeat<E>) -> BookSeat<E>
     ensures table { result.table_id ≡ seat.old.table_id }
     ensures note { result.me ≡ (note seat.old.me.0, []) }
 {
-    shared.split_seat::<Notes>(seat)
+    shared.split_seat::<SplitStep>(seat)
 }

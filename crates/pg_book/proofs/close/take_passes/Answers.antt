@@ -1,8 +1,8 @@
 use Rattle.std.proofs.Common.{◌≡◌, ℕ, ◌+◌, [], ◌∷◌, ◌++◌, length, append_assoc, append-nil, refl, sym, ap, ◌∙◌, subst, arith, rules}
 use Rattle.std.specs.Vec.Iter.{into_iter_items}
-use Rattle.pg_book.specs.Models.{PassOf}
+use Rattle.pg_book.specs.Models.{PassOf, IsPassAt}
 use Rattle.pg_book.specs.Opening.{EachFrom}
-use Rattle.pg_book.specs.Closing.{Gathered, IsPassAt}
+use Rattle.pg_book.specs.Gathering.{Gathered}
 use Rattle.pg_book.proofs.Placing.{each_at}
 use Rattle.pg_book.proofs.Gathering.{gathers_pass}
 use Rattle.pg_book.proofs.close.take_passes.Goals as goal
@@ -36,8 +36,8 @@ loop-pass-preserved g c =
       (λ views count gathered. gathers_pass c.args.seat.now.me.0.needs views at.yielded x at.seat.me.0 c.take_pass.new.seat.me.0 count (v.4 views count gathered) (omega (arith, here.is_caller)) t.view),
     )
 
-pub take_pass-requires-clause-gathered : goal.take_pass-requires-clause-gathered
-take_pass-requires-clause-gathered g c =
+pub take_pass-requires-clause-live : goal.take_pass-requires-clause-live
+take_pass-requires-clause-live g c =
     let h = c.requires.view in
     (c.loop-pass.invariant.4 h.views h.count h.gathered).ready.sound.live
 

@@ -1,6 +1,6 @@
 use Rattle.std.proofs.Common.{◌≡◌, [], ◌++◌, length}
 use Rattle.std.specs.Vec.Iter.{into_iter_items, into_iter_len}
-use Rattle.pg_book.specs.Closing.{TakesPasses}
+use Rattle.pg_book.specs.Gathering.{TakesPasses}
 use Rattle.pg_book.proofs.close.take_passes.Given as goal
 
 abbrev pub invariant-loop-pass : goal.invariant-loop-pass

@@ -1,8 +1,8 @@
 use Rattle.std.proofs.Common.{◌≡◌, ℕ, ◌+◌, [], ◌∷◌, ◌++◌, length, map, length-append, append_assoc, sym, ap, ◌∙◌, subst, arith}
 use Rattle.std.specs.Vec.Iter.{into_iter_items}
-use Rattle.pg_book.specs.Models.{SpineOf}
+use Rattle.pg_book.specs.Models.{SpineOf, IsSpineAt}
 use Rattle.pg_book.specs.Opening.{EachFrom}
-use Rattle.pg_book.specs.Closing.{stamped, flat, IsSpineAt}
+use Rattle.pg_book.specs.Closing.{stamped, flat}
 use Rattle.pg_book.proofs.Placing.{each_at}
 use Rattle.pg_book.proofs.Gathering.{map_join, flat_join, gathers_spine}
 use Rattle.pg_book.proofs.close.take_spines.Goals as goal

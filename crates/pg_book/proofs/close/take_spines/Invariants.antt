@@ -1,6 +1,7 @@
 use Rattle.std.proofs.Common.{◌≡◌, ◌≤◌, ◌+◌, [], ◌++◌, length, map, vec_len, vec_capacity}
 use Rattle.std.specs.Vec.Iter.{into_iter_items, into_iter_len}
-use Rattle.pg_book.specs.Closing.{stamped, flat, Gathered, spine_views}
+use Rattle.pg_book.specs.Gathering.{Gathered, spine_views}
+use Rattle.pg_book.specs.Closing.{stamped, flat}
 use Rattle.pg_book.proofs.close.take_spines.Given as goal
 
 abbrev pub invariant-loop-spine : goal.invariant-loop-spine

@@ -3,8 +3,8 @@ use Rattle.pg_book.specs.declared.view.View.{View}
 use Rattle.pg_book.specs.Kinds.{note, joined, drawn}
 use Rattle.pg_book.specs.Tells.{MayDraw}
 use Rattle.pg_book.specs.Steps.{HasLooked}
-use Rattle.pg_book.specs.Knowing.{HasMet, HasDrawn}
-use Rattle.pg_book.proofs.Meetings.{met}
+use Rattle.pg_book.specs.Knowing.{HasDrawn}
+use Rattle.pg_book.proofs.Meetings.{HasMet, met}
 use Rattle.pg_book.proofs.Drawing.{may_draw, has_drawn}
 use Rattle.pg_book.proofs.meeting.draw_between.Goals as goal
 

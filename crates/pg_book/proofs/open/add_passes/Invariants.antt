@@ -1,6 +1,6 @@
 use Rattle.std.proofs.Common.{◌≡◌}
 use Rattle.pg_book.specs.Opening.{IsNewPass}
-use Rattle.pg_book.specs.Adding.{IsSoFar}
+use Rattle.pg_book.proofs.Placing.{IsSoFar}
 use Rattle.pg_book.proofs.open.add_passes.Given as goal
 
 abbrev pub invariant-loop-caller : goal.invariant-loop-caller

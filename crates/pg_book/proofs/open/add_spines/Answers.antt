@@ -2,32 +2,32 @@ use Rattle.std.proofs.Common.{◌≡◌, ℕ, ◌+◌, [], ◌∷◌, ◌++◌, 
 use Rattle.std.specs.Vec.Iter.{into_iter_items}
 use Rattle.atomic_table.specs.Seated.{TableId}
 use Rattle.atomic_table.specs.Table.{Me}
-use Rattle.pg_book.specs.declared.open.Stand.{Stand}
+use Rattle.pg_book.specs.declared.open.PartRoom.{PartRoom}
 use Rattle.pg_book.specs.declared.view.View.{View}
 use Rattle.pg_book.specs.Needs.{part_entries}
 use Rattle.pg_book.specs.Opening.{EachFrom, IsNewSpine}
-use Rattle.pg_book.specs.Laid.{IsStand}
+use Rattle.pg_book.specs.Prepared.{IsPartRoom}
 use Rattle.pg_book.proofs.Placing.{each_at, so_far_push}
 use Rattle.pg_book.proofs.open.add_spines.Goals as goal
 
-pub spine_of-requires-clause-stand : goal.spine_of-requires-clause-stand
-spine_of-requires-clause-stand g c =
-    let at = c.loop-stand in
-    let x = c.in-Some.stand in
-    let P : ℕ → Stand g.row.E.Denot → Type 0 = λ k s. IsStand c.args.seat.now.table_id (part_entries c.args.seat.now.me.0.needs k) s in
-    let steps : into_iter_items at.stand-iterator ≡ x ∷ into_iter_items c.next.new.self = c.in-Some.ensures.steps.0 in
-    let all : c.args.stands.items ≡ at.yielded ++ x ∷ into_iter_items c.next.new.self = sym at.invariant.0 ∙ ap (λ l. at.yielded ++ l) steps in
-    let here : P (0 + length at.yielded) x = each_at P 0 at.yielded (into_iter_items c.next.new.self) x (subst (EachFrom P 0) all c.requires.stands.1) in
+pub spine_of-requires-clause-room : goal.spine_of-requires-clause-room
+spine_of-requires-clause-room g c =
+    let at = c.loop-room in
+    let x = c.in-Some.room in
+    let P : ℕ → PartRoom g.row.E.Denot → Type 0 = λ k s. IsPartRoom c.args.seat.now.table_id (part_entries c.args.seat.now.me.0.needs k) s in
+    let steps : into_iter_items at.room-iterator ≡ x ∷ into_iter_items c.next.new.self = c.in-Some.ensures.steps.0 in
+    let all : c.args.rooms.items ≡ at.yielded ++ x ∷ into_iter_items c.next.new.self = sym at.invariant.0 ∙ ap (λ l. at.yielded ++ l) steps in
+    let here : P (0 + length at.yielded) x = each_at P 0 at.yielded (into_iter_items c.next.new.self) x (subst (EachFrom P 0) all c.requires.rooms.1) in
     let number : 0 + length at.yielded ≡ at.part = omega (arith, at.invariant.2) in
     let there : P at.part x = subst (λ (n : ℕ). P n x) number here in
-    subst (λ (y : TableId × Me (Unit {0}) (View g.row.E.Denot)). IsStand y.0 (part_entries y.1.0.needs at.part) x) (λ i. (sym at.invariant.3 i, sym at.invariant.4 i)) there
+    subst (λ (y : TableId × Me (Unit {0}) (View g.row.E.Denot)). IsPartRoom y.0 (part_entries y.1.0.needs at.part) x) (λ i. (sym at.invariant.3 i, sym at.invariant.4 i)) there
 
-pub loop-stand-preserved : goal.loop-stand-preserved
-loop-stand-preserved g c =
-    let at = c.loop-stand in
+pub loop-room-preserved : goal.loop-room-preserved
+loop-room-preserved g c =
+    let at = c.loop-room in
     let v = at.invariant in
-    let x = c.in-Some.stand in
-    let steps : into_iter_items at.stand-iterator ≡ x ∷ into_iter_items c.next.new.self = c.in-Some.ensures.steps.0 in
+    let x = c.in-Some.room in
+    let steps : into_iter_items at.room-iterator ≡ x ∷ into_iter_items c.next.new.self = c.in-Some.ensures.steps.0 in
     let gone = c.in-Some.ensures.steps.1 in
     let short = ap length steps in
     let same = c.spine_of.ensures.same in

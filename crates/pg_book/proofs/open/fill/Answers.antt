@@ -10,20 +10,20 @@ use Rattle.pg_book.proofs.open.fill.Goals as goal
 
 pub invariant_of-result : goal.invariant_of-result
 invariant_of-result g c =
-    let l = c.requires.laid in
+    let l = c.requires.prepared in
     let s = c.add_spines.ensures.same in
     let t = c.add_passes.ensures.same in
     let is = t.1 ∙ s.1 ∙ l.view in
-    let view : c.add_passes.new.seat.me.0 ≡ first c.args.laid.seat.me.0.needs = ap (λ m. m.0) is in (
+    let view : c.add_passes.new.seat.me.0 ≡ first c.args.prepared.seat.me.0.needs = ap (λ m. m.0) is in (
       record { same = t.0 ∙ s.0 ∙ l.seat.same; words = l.seat.words },
       ap (λ m. m.1) is,
-      subst (λ (v : View g.row.E.Denot). IsBookView v) (sym view) (new_book c.args.laid.seat.me.0.needs c.requires.small),
+      subst (λ (v : View g.row.E.Denot). IsBookView v) (sym view) (new_book c.args.prepared.seat.me.0.needs c.requires.small),
     )
 
 pub returns-clause-ok : goal.returns-clause-ok
 returns-clause-ok g c =
-    let l = c.requires.laid in
-    let needs = c.args.laid.seat.me.0.needs in
+    let l = c.requires.prepared in
+    let needs = c.args.prepared.seat.me.0.needs in
     let s = c.add_spines.ensures.same in
     let t = c.add_passes.ensures.same in
     let view : c.add_passes.new.seat.me.0 ≡ first needs = ap (λ m. m.0) (t.1 ∙ s.1 ∙ l.view) in

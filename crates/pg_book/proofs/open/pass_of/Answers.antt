@@ -30,4 +30,4 @@ returns-clause-ok g c =
     let k : name ≡ parts_of needs + c.args.caller = omega (arith, c.requires.parts.0, c.from.ensures) in
     let view : c.in_ok-made.made.me.0 ≡ named (note (first needs)) (parts_of needs + c.args.caller) = ap (λ m. m.0) o.1 ∙ ap (λ m. named (note m.0) name) c.requires.view.is ∙ ap (λ (n : ℕ). named (note (first needs)) n) k in
     let lt : parts_of needs + c.args.caller < names_of needs = omega (arith, c.requires.caller) in
-    record { same_book = o.0; is_caller = refl; view = subst (λ (v : View g.row.E.Denot). KnowsNothing needs v) (sym view) (knows_nothing g.row.E.Denot needs c.requires.view.small (parts_of needs + c.args.caller) lt) }
+    record { place = record { same_book = o.0; is_caller = refl }; view = subst (λ (v : View g.row.E.Denot). KnowsNothing needs v) (sym view) (knows_nothing g.row.E.Denot needs c.requires.view.small (parts_of needs + c.args.caller) lt) }

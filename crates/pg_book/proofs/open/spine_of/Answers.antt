@@ -13,16 +13,14 @@ invariant_of-result g c =
     let o = c.in_ok-made.ensures.ok in
     let is : c.in_ok-made.made.me ≡ (named (note (first c.args.seat.now.me.0.needs)) c.args.part, []) = o.1 ∙ ap (λ (n : ℕ). (named (note c.args.seat.now.me.0) n, [])) c.from.ensures ∙ ap (λ m. (named (note m.0) c.args.part, [])) c.requires.view.is in
     let view : c.in_ok-made.made.me.0 ≡ named (note (first c.args.seat.now.me.0.needs)) c.args.part = ap (λ m. m.0) is in
-    let s = c.requires.stand in
+    let s = c.requires.room in
     let sound : Sound (named (note (first c.args.seat.now.me.0.needs)) c.args.part) = subst (λ (v : View g.row.E.Denot). Sound v) view o.2 in
     let lt : c.args.part < names_of c.args.seat.now.me.0.needs = omega (arith, c.requires.part) in
     let none = ap (λ v. list_at v c.args.part) view ∙ (knows_nothing g.row.E.Denot c.args.seat.now.me.0.needs c.requires.view.small c.args.part lt).lists c.args.part in (
       record { same = o.0 ∙ sym s.same; words = ap (λ z. z.words) s.same ∙ c.requires.words },
       ap (λ m. m.1) is,
       subst (λ (v : View g.row.E.Denot). IsSpineView c.args.part v) (sym view) (new_spine c.args.seat.now.me.0.needs c.requires.view.small c.args.part c.requires.part sound),
-      s.empty ∙ sym none,
-      s.count ∙ sym (ap length none),
-      le_of_eq (ap (λ (v : View g.row.E.Denot). part_entries v.needs c.args.part) view ∙ sym s.roomy),
+      record { items = s.empty ∙ sym none; count = s.count ∙ sym (ap length none); room = le_of_eq (ap (λ (v : View g.row.E.Denot). part_entries v.needs c.args.part) view ∙ sym s.roomy) },
     )
 
 pub returns-clause-ok : goal.returns-clause-ok
@@ -30,4 +28,4 @@ returns-clause-ok g c =
     let o = c.in_ok-made.ensures.ok in
     let view : c.in_ok-made.made.me.0 ≡ named (note (first c.args.seat.now.me.0.needs)) c.args.part = ap (λ m. m.0) o.1 ∙ ap (λ (n : ℕ). named (note c.args.seat.now.me.0) n) c.from.ensures ∙ ap (λ m. named (note m.0) c.args.part) c.requires.view.is in
     let lt : c.args.part < names_of c.args.seat.now.me.0.needs = omega (arith, c.requires.part) in
-    record { same_book = o.0; is_part = refl; view = subst (λ (v : View g.row.E.Denot). KnowsNothing c.args.seat.now.me.0.needs v) (sym view) (knows_nothing g.row.E.Denot c.args.seat.now.me.0.needs c.requires.view.small c.args.part lt) }
+    record { place = record { same_book = o.0; is_part = refl }; view = subst (λ (v : View g.row.E.Denot). KnowsNothing c.args.seat.now.me.0.needs v) (sym view) (knows_nothing g.row.E.Denot c.args.seat.now.me.0.needs c.requires.view.small c.args.part lt) }

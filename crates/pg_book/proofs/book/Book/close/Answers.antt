@@ -1,8 +1,9 @@
 use Rattle.std.proofs.Common.{◌≡◌, List, ◌++◌, length, map, IsPermutation, refl, sym, ap, ◌∙◌, subst, arith}
 use Rattle.pg_book.specs.declared.receipt.Stamped.{Stamped}
-use Rattle.pg_book.specs.Models.{BookOf}
+use Rattle.pg_book.specs.Models.{BookOf, IsPassAt}
 use Rattle.pg_book.specs.Opening.{EachFrom}
-use Rattle.pg_book.specs.Closing.{stamped, flat, AreSpinesOf, ArePassesOf, IsPassAt, spine_views, pass_views}
+use Rattle.pg_book.specs.Gathering.{spine_views, pass_views}
+use Rattle.pg_book.specs.Closing.{stamped, flat, AreSpinesOf, ArePassesOf}
 use Rattle.pg_book.proofs.Gathering.{gathers_none, has_parts, has_all, looked_gathered}
 use Rattle.pg_book.proofs.Closings.{history}
 use Rattle.pg_book.proofs.book.Book.close.Goals as goal
@@ -46,4 +47,4 @@ returns-clause-closed g c =
     let last = looked_gathered needs (spine_views spines ++ pass_views passes) c.take_passes.new.seat.me.0 c.look.new.seat.me.0 all c.look.ensures.looked in
     let items : c.take_spines.new.entries.items ≡ map stamped (flat spines) = c.take_spines.ensures.items ∙ ap (λ l. l ++ map stamped (flat spines)) c.in-Ok.ensures.items in
     let perm = subst (λ (l : List (Stamped g.row.E.Denot)). IsPermutation l c.in_order.result.items) items c.in_order.ensures.same in
-    history needs _ _ spines passes c.look.new.seat.me.0 last c.look.ensures.looked.sees s.count s.each p.each c.in_order.result.items perm c.in_order.ensures.sorted
+    history needs _ _ spines passes c.look.new.seat.me.0 last c.look.ensures.looked.sees s.count p.count s.each p.each c.in_order.result.items perm c.in_order.ensures.sorted

@@ -16,9 +16,8 @@ draw_between-stamp-requires-clause-room g c =
 pub unreachable-requires : goal.unreachable-requires
 unreachable-requires g c =
     let d = c.draw_between-stamp.ensures.drawn.space in
-    let e = c.self.invariant.4 in
-    let f = c.self.invariant.5 in
-    let lt : vec_len c.self.inside.receipts < vec_capacity c.self.inside.receipts = omega (arith, d, e, f) in
+    let r = c.self.invariant.3 in
+    let lt : vec_len c.self.inside.receipts < vec_capacity c.self.inside.receipts = omega (arith, d, r) in
     true≢false (sym (subst IsOk c.in_default.is (c.push.ensures.succeeds lt)))
 
 pub invariant_of-self : goal.invariant_of-self
@@ -31,9 +30,11 @@ invariant_of-self g c =
       record { same = t.0 ∙ v.0.same; words = v.0.words },
       c.draw_between-stamp.ensures.slots.0 ∙ v.1,
       d.spine,
-      pushed.items ∙ ap (λ l. l ++ receipt_of c.self.inside.part c.pass.inside.number c.args.entry c.draw_between-stamp.result ∷ []) v.3 ∙ sym d.spine_list,
-      pushed.len ∙ ap (λ (n : ℕ). n + 1) v.4 ∙ sym longer,
-      le_trans (subst (λ (n : List (List Needs)). part_entries n c.self.inside.part ≤ vec_capacity c.self.inside.receipts) (sym d.spine_kept.needs) v.5) c.push.ensures.capacity,
+      record {
+        items = pushed.items ∙ ap (λ l. l ++ receipt_of c.self.inside.part c.pass.inside.number c.args.entry c.draw_between-stamp.result ∷ []) v.3.items ∙ sym d.spine_list;
+        count = pushed.len ∙ ap (λ (n : ℕ). n + 1) v.3.count ∙ sym longer;
+        room = le_trans (subst (λ (n : List (List Needs)). part_entries n c.self.inside.part ≤ vec_capacity c.self.inside.receipts) (sym d.spine_kept.needs) v.3.room) c.push.ensures.capacity;
+      },
     )
 
 pub invariant_of-pass : goal.invariant_of-pass
@@ -46,6 +47,8 @@ invariant_of-pass g c = (
 pub returns : goal.returns
 returns g c =
     let d = c.draw_between-stamp.ensures.drawn in
-    subst (λ (x : SpineOf g.row.E.Denot × PassOf g.row.E.Denot). Draws x.0 x.1 c.args.entry record { part = c.self.inside.part; caller = c.pass.inside.number; stamp = c.draw_between-stamp.result; entry = c.args.twin }
-    record { book = c.draw_between-stamp.new.spine.table_id; part = c.self.inside.part; view = c.draw_between-stamp.new.spine.me.0 } record { book = c.draw_between-stamp.new.pass.table_id; caller = c.pass.inside.number; view = c.draw_between-stamp.new.pass.me.0 })
-    (λ i. (c.self.view_is i, c.pass.view_is i)) (draws_of _ _ _ _ _ _ _ _ _ _ _ _ _ c.requires.twin c.draw_between-stamp.ensures.tables d)
+    record {
+      drawn = subst (λ (x : SpineOf g.row.E.Denot × PassOf g.row.E.Denot). Draws x.0 x.1 c.args.entry record { part = c.self.inside.part; caller = c.pass.inside.number; stamp = c.draw_between-stamp.result; entry = c.args.twin }
+          record { book = c.draw_between-stamp.new.spine.table_id; part = c.self.inside.part; view = c.draw_between-stamp.new.spine.me.0 } record { book = c.draw_between-stamp.new.pass.table_id; caller = c.pass.inside.number; view = c.draw_between-stamp.new.pass.me.0 })
+          (λ i. (c.self.view_is i, c.pass.view_is i)) (draws_of _ _ _ _ _ _ _ _ _ _ _ _ _ c.requires.twin c.draw_between-stamp.ensures.tables d);
+    }
