@@ -146,17 +146,23 @@ module _ {E : Type 0} where
   length-stamped [] = refl
   length-stamped (x ∷ xs) = ap suc (length-stamped xs)
 
+  -- the spines have as many receipts as the log
+  length-flat_log : (log : List (Receipt E)) (spines : List (SpineOf E)) → ((r : Receipt E) → Among r log → r.part < length spines) → EachFrom (λ k s. of_part k log ≡ spine_receipts s) 0 spines → length (flat spines) ≡ length log
+  length-flat_log log spines parts each =
+      let a = length-flat log 0 spines each in
+      let b = length-of_part (length spines) log parts in
+      let c = sum_to_same (length spines) (λ k. length (of_part (0 + k) log)) (λ k. length (of_part k log)) (λ k. ap (λ (j : ℕ). length (of_part j log)) (omega arith)) in
+      omega (arith, a, b, c)
+
   -- the sorted entries of all spines are the log
   pub sorted_is_log : (log : List (Receipt E)) (spines : List (SpineOf E)) (es : List (Stamped E)) → Numbered 0 log → ((r : Receipt E) → Among r log → r.part < length spines) → EachFrom (λ k s. of_part k log ≡ spine_receipts s) 0 spines → IsPermutation (map stamped (flat spines)) es → IsNonDecreasingBy (λ (e : Stamped E). e.stamp) es → es ≡ map stamped log
   sorted_is_log log spines es numbered parts each perm sorted =
       let a = length_permutation (map stamped (flat spines)) es perm in
       let b = length-stamped (flat spines) in
-      let c = length-flat log 0 spines each in
-      let d = length-of_part (length spines) log parts in
-      let e = sum_to_same (length spines) (λ k. length (of_part (0 + k) log)) (λ k. length (of_part k log)) (λ k. ap (λ (j : ℕ). length (of_part j log)) (omega arith)) in
-      let f = length-unstamped es in
+      let c = length-flat_log log spines parts each in
+      let d = length-unstamped es in
       let all : (r : Receipt E) → Among r log → Among r (map unstamped es) = λ r x. among_of_contains r (Contains-permutation (map stamped (flat spines)) es (stamped r) perm (contains_of r (flat spines) (among_flat log 0 spines each r x (omega arith) (let p = parts r x in omega arith)))) in
-      sym (back_again es) ∙ ap (map stamped) (in_order log (map unstamped es) (numbered_rising 0 log numbered) (ordered_of es sorted) all (omega (arith, a, b, c, d, e, f)))
+      sym (back_again es) ∙ ap (map stamped) (in_order log (map unstamped es) (numbered_rising 0 log numbered) (ordered_of es sorted) all (omega (arith, a, b, c, d)))
     where
       among_of_contains : (r : Receipt E) → Contains es (stamped r) → Among r (map unstamped es)
       among_of_contains r k = among_of (stamped r) es k.0 k.1 k.2
@@ -251,11 +257,15 @@ module _ {E : Type 0} where
     both_passes : EachFrom (λ c p. Taken (parts_of z.needs + c) p.view z × IsPassAt b c p) 0 passes
     both_passes = each_both (λ c p. Taken (parts_of z.needs + c) p.view z) (IsPassAt b) 0 passes taken_passes at_passes
 
+    logged_part : (r : Receipt E) → Among r log → r.part < length spines
+    logged_part r x = subst (λ (n : ℕ). r.part < n) parts_are (sees.logged.parts r x)
+
     of_log : IsHistory spines passes (map stamped log)
     of_log = record {
+      count = length-stamped log ∙ sym (length-flat_log log spines logged_part all_parts);
       stamps = λ k e is. numbered_stamps 0 log sees.logged.numbered k e is ∙ omega arith;
-      of_book = λ k e is. let r = among_at log k e is in let p = sees.logged.parts r.0 r.1 in let c = sees.logged.callers r.0 r.1 in (
-        subst (λ (x : Stamped E). x.part < length spines) r.2 (subst (λ (n : ℕ). r.0.part < n) parts_are p),
+      of_book = λ k e is. let r = among_at log k e is in let c = sees.logged.callers r.0 r.1 in (
+        subst (λ (x : Stamped E). x.part < length spines) r.2 (logged_part r.0 r.1),
         subst (λ (x : Stamped E). x.caller < length passes) r.2 (subst (λ (n : ℕ). r.0.caller < n) (ap length g.needs_are ∙ sym callers) c),
       );
       of_spines = each_map (λ k s. of_part k log ≡ spine_receipts s) (λ k s. filter (λ (e : Stamped E). eqb e.part k) (map stamped log) ≡ map stamped (spine_receipts s)) 0 spines (λ k s e. filter_stamped (λ x. eqb x.part k) log ∙ ap (map stamped) e) all_parts;
@@ -269,4 +279,4 @@ module _ {E : Type 0} where
 
     pub history : (es : List (Stamped E)) → IsPermutation (map stamped (flat spines)) es → IsNonDecreasingBy (λ (e : Stamped E). e.stamp) es → IsHistory spines passes es
     history es perm sorted =
-        subst (IsHistory spines passes) (sym (sorted_is_log log spines es sees.logged.numbered (λ r x. subst (λ (k : ℕ). r.part < k) parts_are (sees.logged.parts r x)) all_parts perm sorted)) of_log
+        subst (IsHistory spines passes) (sym (sorted_is_log log spines es sees.logged.numbered logged_part all_parts perm sorted)) of_log

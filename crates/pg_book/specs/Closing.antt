@@ -34,6 +34,8 @@ module _ {E : Type 0} where
 
   -- The history of a book: the k-th entry has the stamp k, the entries of a part are its spine's list, those of a caller are its pass's list, and the entry of each receipt that a spine or a pass knew stands at its stamp
   pub record IsHistory (spines : List (SpineOf E)) (passes : List (PassOf E)) (history : List (Stamped E)) : Type 0 where
+    -- there are as many entries as the spines have receipts
+    pub count : length history ≡ length (flat spines)
     pub stamps : (k : ℕ) (e : Stamped E) → slice_get history k ≡ Some e → e.stamp ≡ k
     -- each entry's part is that of a spine, and its caller that of a pass
     pub of_book : (k : ℕ) (e : Stamped E) → slice_get history k ≡ Some e → (e.part < length spines) × (e.caller < length passes)
