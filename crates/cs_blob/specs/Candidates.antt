@@ -6,7 +6,8 @@ use Rattle.cs_superblob.specs.declared.entries.Seat.{Seat}
 use Rattle.cs_directory.specs.Fields.{Fields}
 use Rattle.cs_directory.specs.Layout.{length_field, version, flags_field, hash_offset, ident_offset, special_slots, code_slots, limit, kind}
 use Rattle.cs_blob.specs.declared.candidates.Candidate.{Candidate}
-use Rattle.cs_blob.specs.Parts.{blob_at, whole, directories}
+use Rattle.pg_bytes.specs.Ranges.{bytes_in}
+use Rattle.cs_blob.specs.Parts.{whole, directories}
 
 -- the numbers of the code directory in these bytes
 abbrev pub directory_in : List ℕ → Fields
@@ -24,7 +25,7 @@ directory_in bytes = record {
 
 -- the code directory that an entry places
 unfoldable pub candidate : List ℕ → Seat → Candidate
-candidate bytes seat = record { seat = seat; directory = directory_in (blob_at bytes seat.range) }
+candidate bytes seat = record { seat = seat; directory = directory_in (bytes_in bytes seat.range) }
 
 -- those that several entries place
 abbrev pub among : List ℕ → List Seat → List Candidate

@@ -1,6 +1,6 @@
 -- The blobs of a signature.
 -- Source: XNU's `cs_blobs.h`, CSMAGIC_* and CSSLOT_*; Apple TN3126.
-use Rattle.std.specs.Prelude.{ℕ, ◌+◌, ◌≤◌, Bool, ◌&&◌, ◌||◌, List, [], ◌∷◌, length, take, drop, filter, find, Option, nat_le, ◌==◌, if◌then◌else◌}
+use Rattle.std.specs.Prelude.{ℕ, ◌+◌, ◌≤◌, Bool, ◌&&◌, ◌||◌, List, [], ◌∷◌, length, filter, find, Option, nat_le, ◌==◌, if◌then◌else◌}
 use Rattle.pg_bytes.specs.Fields.{be32_at}
 use Rattle.pg_bytes.specs.declared.fields.Range.{Range}
 use Rattle.cs_superblob.specs.declared.entries.Seat.{Seat}
@@ -13,10 +13,6 @@ is_bare bytes = nat_le 4 (length bytes) && (be32_at bytes 0 == 0xfade0c02)
 -- the range lies within the bytes
 pub record IsWithin (bytes : List ℕ) (range : Range) : Type 0 where
   pub within : range.at + range.len ≤ length bytes
-
--- the bytes of a blob
-unfoldable pub blob_at : List ℕ → Range → List ℕ
-blob_at bytes range = take range.len (drop range.at bytes)
 
 -- a code directory alone, as an entry that places all bytes
 abbrev pub whole : List ℕ → Seat

@@ -7,7 +7,6 @@ use Rattle.std.specs.Option.{option_or, option_map}
 use Rattle.std.specs.List.{range_with_len}
 use Rattle.std.specs.Cmp.Lexicographic.{pointwise}
 use Rattle.pg_bytes.specs.declared.fields.Range.{Range}
-use Rattle.pg_digest.specs.declared.kinds.HashKind.{HashKind}
 use Rattle.cs_superblob.specs.declared.entries.Seat.{Seat}
 use Rattle.cs_superblob.specs.Rules as index
 use Rattle.cs_directory.specs.Rules as directory
@@ -17,8 +16,10 @@ use Rattle.cs_blob.specs.declared.refusal.BlobRefusal.{BlobRefusal}
 use Rattle.cs_blob.specs.declared.refusal.BlobRefusal.TheVariants.{Super, Dir, NoDirectory, SameRank, CmsPresent, SpecialMismatch, SpecialMissing, LimitPastEnd}
 use Rattle.cs_blob.specs.declared.refusal.BlobFail.{BlobFail}
 use Rattle.cs_blob.specs.declared.refusal.BlobFail.TheVariants.{Refused, NoMemory}
-use Rattle.cs_blob.specs.Parts.{is_bare, blob_at, entries, directories, entry_of}
+use Rattle.pg_bytes.specs.Ranges.{bytes_in}
+use Rattle.cs_blob.specs.Parts.{is_bare, entries, directories, entry_of}
 use Rattle.cs_blob.specs.Candidates.{among, ranked, best}
+use Rattle.pg_digest.specs.Kinds.{Hash}
 
 -- what the first of two rules gives, or the second where the first is kept
 abbrev pub first_of : Option BlobRefusal → Option BlobRefusal → Option BlobRefusal
@@ -39,7 +40,7 @@ type_rule bytes = if is_bare bytes then None else (if is_some (entry_of (entries
 
 -- the blob of an entry is a code directory
 unfoldable pub directory_rule : List ℕ → Seat → Option BlobRefusal
-directory_rule bytes seat = option_map Dir (directory.broken (blob_at bytes seat.range))
+directory_rule bytes seat = option_map Dir (directory.broken (bytes_in bytes seat.range))
 
 -- each of these blobs is, in their order
 abbrev pub each_directory : List ℕ → List Seat → Option BlobRefusal
@@ -63,14 +64,14 @@ cms_rule entries = filled_cms (entry_of entries 0x10000)
 
 -- A blob that has a special slot, counted from 1, matches it in a code directory. Where there is no such blob,
 -- the slot may hold anything.
-abbrev pub special_of : (HashKind → List ℕ → List ℕ) → List ℕ → Candidate → ℕ → Option Seat → Option BlobRefusal
+abbrev pub special_of : Hash → List ℕ → Candidate → ℕ → Option Seat → Option BlobRefusal
 special_of hash bytes candidate slot None = None
 special_of hash bytes candidate slot (Some seat) =
     if nat_lt candidate.directory.special_slots slot then Some (SpecialMissing slot)
-    else (if pointwise nat_eq (hash candidate.directory.kind (blob_at bytes seat.range)) (special_at (blob_at bytes candidate.seat.range) slot) then None
+    else (if pointwise nat_eq (hash candidate.directory.kind (bytes_in bytes seat.range)) (special_at (bytes_in bytes candidate.seat.range) slot) then None
     else Some (SpecialMismatch slot))
 
-unfoldable pub special_rule : (HashKind → List ℕ → List ℕ) → List ℕ → List Seat → Candidate → ℕ → Option BlobRefusal
+unfoldable pub special_rule : Hash → List ℕ → List Seat → Candidate → ℕ → Option BlobRefusal
 special_rule hash bytes entries candidate slot = special_of hash bytes candidate slot (entry_of entries slot)
 
 -- the types of blobs that have a special slot: 1 to 11
@@ -78,7 +79,7 @@ unfoldable pub slot_types : List ℕ
 slot_types = range_with_len 1 11
 
 -- each blob of these types does, in the order of their types
-abbrev pub each_special : (HashKind → List ℕ → List ℕ) → List ℕ → List Seat → Candidate → Option BlobRefusal
+abbrev pub each_special : Hash → List ℕ → List Seat → Candidate → Option BlobRefusal
 each_special hash bytes entries candidate = earliest (map (special_rule hash bytes entries candidate) slot_types)
 
 -- what a code directory signs is within the slice
@@ -87,7 +88,7 @@ limit_rule candidate slice = if nat_lt slice.len candidate.directory.limit then 
 
 -- The refusal of the first rule that the bytes break, or none where they are a signature of the slice. What
 -- stands beside the code directories is held against the best of them.
-unfoldable pub broken : (HashKind → List ℕ → List ℕ) → List ℕ → Range → Option BlobRefusal
+unfoldable pub broken : Hash → List ℕ → Range → Option BlobRefusal
 broken hash bytes slice = earliest (
     first_of (index_rule bytes) (type_rule bytes)
     ∷ each_directory bytes (directories bytes)

@@ -2,29 +2,29 @@
 -- Source: XNU's `cs_blobs.h` and `ubc_subr.c`; Apple TN3126, which says what a cdhash is.
 use Rattle.std.specs.Prelude.{◌≡◌, ℕ, ◌<◌, ◌≤◌, List, length, None, All}
 use Rattle.pg_bytes.specs.declared.fields.Range.{Range}
-use Rattle.pg_digest.specs.declared.kinds.HashKind.{HashKind}
-use Rattle.pg_digest.specs.Kinds.{rank_of}
+use Rattle.pg_digest.specs.Kinds.{Hash, rank_of}
 use Rattle.cs_superblob.specs.declared.entries.Seat.{Seat}
 use Rattle.cs_directory.specs.Directory.{IsDirectory, cdhash}
 use Rattle.cs_blob.specs.declared.candidates.Candidate.{Candidate}
-use Rattle.cs_blob.specs.Parts.{IsWithin, blob_at, entries, directories}
+use Rattle.pg_bytes.specs.Ranges.{bytes_in}
+use Rattle.cs_blob.specs.Parts.{IsWithin, entries, directories}
 use Rattle.cs_blob.specs.Candidates.{among, ranked, best}
 use Rattle.cs_blob.specs.Rules.{broken}
 use Rattle.cs_blob.specs.Signature.{Signature}
 
 -- the signature that the bytes hold: all but the best directory has no effect
-unfoldable pub signature : (HashKind → List ℕ → List ℕ) → List ℕ → Range → Signature
+unfoldable pub signature : Hash → List ℕ → Range → Signature
 signature hash bytes slice = record {
   bytes = bytes;
   best = (best bytes).directory;
-  best_bytes = blob_at bytes (best bytes).seat.range;
+  best_bytes = bytes_in bytes (best bytes).seat.range;
   slice = slice;
-  cdhash = cdhash hash (blob_at bytes (best bytes).seat.range);
+  cdhash = cdhash hash (bytes_in bytes (best bytes).seat.range);
 }
 
 -- The bytes keep all rules, and the value is what they hold. Its best directory is one that `directory` accepts
 -- from the bytes beside it, and no code directory of the signature has a greater rank.
-pub record IsSignature (hash : HashKind → List ℕ → List ℕ) (bytes : List ℕ) (slice : Range) (held : Signature) : Type 0 where
+pub record IsSignature (hash : Hash) (bytes : List ℕ) (slice : Range) (held : Signature) : Type 0 where
   pub unbroken : broken hash bytes slice ≡ None
   pub value : held ≡ signature hash bytes slice
   pub directory : IsDirectory held.best_bytes held.best
@@ -41,10 +41,10 @@ pub record HasParts (bytes : List ℕ) (found placed : List Seat) : Type 0 where
 -- the code directory is one that stands in these bytes
 pub record IsCandidate (bytes : List ℕ) (candidate : Candidate) : Type 0 where
   pub within : IsWithin bytes candidate.seat.range
-  pub directory : IsDirectory (blob_at bytes candidate.seat.range) candidate.directory
+  pub directory : IsDirectory (bytes_in bytes candidate.seat.range) candidate.directory
 
 -- the code directory is the best one of a signature of the slice
-pub record IsBest (hash : HashKind → List ℕ → List ℕ) (bytes : List ℕ) (slice : Range) (candidate : Candidate) : Type 0 where
+pub record IsBest (hash : Hash) (bytes : List ℕ) (slice : Range) (candidate : Candidate) : Type 0 where
   pub unbroken : broken hash bytes slice ≡ None
   pub value : candidate ≡ best bytes
   pub found : IsCandidate bytes candidate

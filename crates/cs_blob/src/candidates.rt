@@ -7,10 +7,10 @@ ghost use Rattle.cs_blob.specs.Candidates as candidates;
 ghost use Rattle.cs_blob.specs.Rules.{directory_rule, each_directory, same_ranks, Tries, Refuses};
 ghost use Rattle.cs_blob.specs.Signed.{IsCandidate};
 
-use crate::parts::part;
 use crate::refusal::{BlobFail, BlobRefusal};
 use cs_directory::{Directory, directory};
 use cs_superblob::Seat;
+use pg_bytes::bytes_in;
 use pg_digest::rank;
 use std::alloc::Global;
 
@@ -48,7 +48,7 @@ fn candidate_at(bytes: &[u8], seat: &Seat) -> Result<Candidate, BlobRefusal>
     ensures sound { IfOk result (IsCandidate bytes.now) }
     ensures tries { Tries (directory_rule bytes.now seat.now) result }
 {
-    match directory(part(bytes, &seat.range)) {
+    match directory(bytes_in(bytes, &seat.range)) {
         Ok(directory) => Ok(Candidate {
             seat: *seat,
             directory,

@@ -8,10 +8,10 @@ ghost use Rattle.cs_blob.specs.Signed.{IsCandidate};
 ghost use Rattle.cs_blob.specs.declared.refusal.BlobRefusal.TheVariants.{LimitPastEnd};
 
 use crate::candidates::Candidate;
-use crate::parts::{entry, part};
+use crate::parts::entry;
 use crate::refusal::BlobRefusal;
 use cs_superblob::Seat;
-use pg_bytes::Range;
+use pg_bytes::{Range, bytes_in};
 use pg_digest::{Digester, digest_bytes};
 
 /// The type of the CMS signature.
@@ -75,11 +75,11 @@ fn special<D: Digester>(
         return Ok(());
     };
     let slot = u64::from(slot);
-    let best_bytes = part(bytes, &best.seat.range);
+    let best_bytes = bytes_in(bytes, &best.seat.range);
     let Some(wanted) = best.directory.special(best_bytes, slot) else {
         return Err(BlobRefusal::SpecialMissing { slot });
     };
-    let digest = d.hash(best.directory.kind(), part(bytes, &seat.range));
+    let digest = d.hash(best.directory.kind(), bytes_in(bytes, &seat.range));
     if digest_bytes(&digest) != wanted {
         return Err(BlobRefusal::SpecialMismatch { slot });
     }

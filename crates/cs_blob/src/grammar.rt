@@ -9,10 +9,10 @@ ghost use Rattle.cs_blob.specs.Signed.{IsSignature, IsBest};
 
 use crate::candidates::{Candidate, candidates_of, distinct_ranks, strongest};
 use crate::checks::{limited, no_cms, specials};
-use crate::parts::{part, parts_of};
+use crate::parts::parts_of;
 use crate::refusal::BlobFail;
 use crate::signature::Blob;
-use pg_bytes::Range;
+use pg_bytes::{Range, bytes_in};
 use pg_digest::Digester;
 use std::alloc::Global;
 
@@ -38,7 +38,7 @@ pub fn blob<D: Digester>(
     ensures counted { D.calls d.old ≤ D.calls d.new }
 {
     let best = best_of(alloc, &bytes, slice, d)?;
-    let cdhash = best.directory.cdhash(part(&bytes, &best.seat.range), d);
+    let cdhash = best.directory.cdhash(bytes_in(&bytes, &best.seat.range), d);
     Ok(Blob {
         bytes,
         best: best.directory,

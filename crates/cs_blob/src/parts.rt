@@ -1,7 +1,7 @@
 //! The blobs of a signature.
 
 ghost use Rattle.std.specs.Prelude.{◌≡◌, ◌==◌, IfOk, IfErr, OnOk, None, filter};
-ghost use Rattle.cs_blob.specs.Parts.{blob_at, IsWithin, is_directory_type, entry_of};
+ghost use Rattle.cs_blob.specs.Parts.{is_directory_type, entry_of};
 ghost use Rattle.cs_blob.specs.Parts as parts;
 ghost use Rattle.cs_blob.specs.Rules.{index_rule, type_rule, Refuses, first_of};
 ghost use Rattle.cs_blob.specs.Signed.{HasParts};
@@ -24,15 +24,6 @@ pub struct Parts {
     pub entries: Vec<Seat>,
     /// Those of code directories, or the only one.
     pub directories: Vec<Seat>,
-}
-
-/// The bytes of a blob.
-#[tactic(auto, unfolding(crate::specs::Parts::blob_at))]
-pub fn part<'a>(bytes: &'a [u8], range: &Range) -> &'a [u8]
-    requires { IsWithin bytes.now range.now }
-    ensures { result.now ≡ blob_at bytes.now range.now }
-{
-    &bytes[range.at as usize..(range.at + range.len) as usize]
 }
 
 /// The entry of a type.

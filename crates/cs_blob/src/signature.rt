@@ -2,9 +2,8 @@
 
 ghost use Rattle.std.specs.Prelude.{◌≡◌};
 
-use crate::parts::part;
 use cs_directory::Directory;
-use pg_bytes::Range;
+use pg_bytes::{Range, bytes_in};
 use std::marker::Model;
 
 /// The signature of one slice, as `blob` accepts it: its bytes, the best of its code directories with the bytes
@@ -20,14 +19,15 @@ pub struct Blob {
 
 impl Model for Blob {
     ghost use Rattle.cs_blob.specs.Signature.{Signature};
-    ghost use Rattle.cs_blob.specs.Parts.{blob_at, IsWithin};
+    ghost use Rattle.pg_bytes.specs.Ranges.{bytes_in};
+    ghost use Rattle.cs_blob.specs.Parts.{IsWithin};
 
     ghost Value = { Signature };
 
     ghost view = { λ a. record {
       bytes = a.bytes.items;
       best = a.best;
-      best_bytes = blob_at a.bytes.items a.place;
+      best_bytes = bytes_in a.bytes.items a.place;
       slice = a.slice;
       cdhash = a.cdhash;
     } };
@@ -56,7 +56,7 @@ impl Blob {
     pub fn best_bytes(&self) -> &[u8]
         ensures { result.now ≡ self.now.best_bytes }
     {
-        part(&self.bytes, &self.place)
+        bytes_in(&self.bytes, &self.place)
     }
 
     /// The slice of the file that is signed: its first byte in the file, and how many bytes it has.

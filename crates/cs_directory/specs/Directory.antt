@@ -2,8 +2,7 @@
 -- Source: `CS_CodeDirectory` in XNU's `cs_blobs.h`; Apple TN3126, which says what a cdhash is.
 use Rattle.std.specs.Prelude.{◌≡◌, ℕ, ◌+◌, ◌-◌, ◌*◌, ◌<◌, ◌≤◌, List, length, take, drop, None, ◌==◌}
 use Rattle.std.specs.List.{before_first}
-use Rattle.pg_digest.specs.declared.kinds.HashKind.{HashKind}
-use Rattle.pg_digest.specs.Kinds.{size_of}
+use Rattle.pg_digest.specs.Kinds.{Hash, size_of}
 use Rattle.cs_directory.specs.Layout.{length_field, version, flags_field, hash_offset, ident_offset, special_slots, code_slots, hash_size, kind, limit, blob_bytes}
 use Rattle.cs_directory.specs.Fields.{Fields}
 use Rattle.cs_directory.specs.Rules.{broken}
@@ -20,9 +19,13 @@ special_at bytes t = take (hash_size bytes) (drop (hash_offset bytes - t * hash_
 unfoldable pub ident_at : List ℕ → List ℕ
 ident_at bytes = before_first (λ b. b == 0) (drop (ident_offset bytes) (blob_bytes bytes))
 
+-- the flags that have effect: those that the directory of a Mach-O file can carry
+abbrev pub flag_mask : ℕ
+flag_mask = 0x00033f02
+
 -- the cdhash, by which trust caches list a directory: the first 20 bytes of the digest of the whole directory
 -- by its own hash type
-unfoldable pub cdhash : (HashKind → List ℕ → List ℕ) → List ℕ → List ℕ
+unfoldable pub cdhash : Hash → List ℕ → List ℕ
 cdhash hash bytes = take 20 (hash (kind bytes) (blob_bytes bytes))
 
 -- The numbers are those that the layout places in the bytes.

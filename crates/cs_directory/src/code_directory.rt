@@ -5,7 +5,7 @@ ghost use Rattle.pg_bytes.specs.Counts.{Rose};
 ghost use Rattle.pg_digest.specs.Kinds.{size_of};
 ghost use Rattle.cs_directory.specs.Rules.{IsFramed};
 ghost use Rattle.cs_directory.specs.Layout as layout;
-ghost use Rattle.cs_directory.specs.Directory.{HasFields, IsDirectory, slot_at, special_at, ident_at, cdhash};
+ghost use Rattle.cs_directory.specs.Directory.{HasFields, IsDirectory, flag_mask, slot_at, special_at, ident_at, cdhash};
 
 use crate::numbers::{before_zero, behind, front, long_number, number};
 use pg_digest::{Digester, HashKind, digest_bytes, size};
@@ -157,7 +157,7 @@ impl Directory {
 
     /// The flags field, without the bits outside `FLAG_MASK`, which have no effect.
     pub fn flags(&self) -> u32
-        ensures { result ≡ bit_and self.now.flags FLAG_MASK }
+        ensures { result ≡ bit_and self.now.flags flag_mask }
     {
         self.flags & FLAG_MASK
     }

@@ -1,8 +1,8 @@
 //! Events and replies: what happens to a part of the machine, and what the part answers.
 //!
 //! A part is changed by one event after another, and answers each with a reply. Here are the events and replies
-//! of a process and of the trust list, and refusals, by which replies tell of bytes that break their format. The
-//! flags of a process decide how code signing is enforced on it.
+//! of a process and of the trust list; refusals, by which replies tell of bytes that break their format; and the
+//! regions of a file with what each was given. The flags of a process decide how code signing is enforced on it.
 #![tactic(auto)]
 
 mod access;
@@ -10,6 +10,7 @@ mod flags;
 mod laws;
 mod process;
 mod refusal;
+mod region;
 mod trust;
 
 pub use access::{Access, Prot};
@@ -20,6 +21,7 @@ pub use refusal::{
     DIRECTORY_FAMILY, FAT_FAMILY, IMAGE_FAMILY, Refusal, SIGNATURE_FAMILY, SUPERBLOB_FAMILY,
     TRUST_FAMILY,
 };
+pub use region::{Record, Region};
 pub use trust::{TrustEvent, TrustReply};
 
 #[cfg(test)]

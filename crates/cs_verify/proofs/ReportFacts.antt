@@ -7,12 +7,13 @@ use Rattle.macho_cmds.specs.Images.{IsImage}
 use Rattle.macho_cmds.specs.Rules.{broken}
 use Rattle.macho_cmds.specs.Refusals.{refusal_of}
 use Rattle.cs_verify.specs.declared.report.SliceReport.TheVariants.{Refused}
-use Rattle.cs_verify.specs.Pages.{Hash, part}
+use Rattle.pg_bytes.specs.Ranges.{bytes_in}
+use Rattle.pg_digest.specs.Kinds.{Hash}
 use Rattle.cs_verify.specs.Report.{image_report, slice_report}
 
 -- the report of an image, from its bytes
-pub said_of_image : (hash : Hash) (file : List ℕ) (slice : Range) (image : Image) (bytes : List ℕ) → IsImage file slice image → bytes ≡ part file slice → image_report hash bytes slice image ≡ slice_report hash file slice
-unfolding slice_report part
+pub said_of_image : (hash : Hash) (file : List ℕ) (slice : Range) (image : Image) (bytes : List ℕ) → IsImage file slice image → bytes ≡ bytes_in file slice → image_report hash bytes slice image ≡ slice_report hash file slice
+unfolding slice_report
 said_of_image hash file slice image bytes is from =
     rw (from, is.says, is.unbroken) refl
 

@@ -4,19 +4,10 @@ use Rattle.std.specs.Prelude.{ℕ, ◌*◌, List, take, drop, Option, Some, None
 use Rattle.std.specs.List.{range_with_len, filter_map}
 use Rattle.std.specs.Int.{div_ceil}
 use Rattle.std.specs.Cmp.Lexicographic.{pointwise}
-use Rattle.pg_bytes.specs.declared.fields.Range.{Range}
-use Rattle.pg_digest.specs.declared.kinds.HashKind.{HashKind}
+use Rattle.pg_digest.specs.Kinds.{Hash}
 use Rattle.cs_directory.specs.Fields.{Fields}
 use Rattle.cs_directory.specs.Directory.{slot_at}
 use Rattle.cs_verify.specs.declared.report.BadPage.{BadPage}
-
--- the digest of a message by a hash type
-abbrev pub Hash : Type 0
-Hash = HashKind → List ℕ → List ℕ
-
--- the bytes of a range
-unfoldable pub part : List ℕ → Range → List ℕ
-part bytes range = take range.len (drop range.at bytes)
 
 -- how many hash pages of 4,096 bytes so many bytes reach
 abbrev pub page_count : ℕ → ℕ

@@ -3,15 +3,15 @@
 use Rattle.std.specs.Prelude.{◌≡◌, ℕ, Bool, false, not, ◌&&◌, ◌==◌, List, length, map, Option, Some, None, bit_and}
 use Rattle.std.specs.List.{list_all}
 use Rattle.pg_bytes.specs.declared.fields.Range.{Range}
+use Rattle.pg_bytes.specs.Ranges.{bytes_in}
 use Rattle.macho_slices.specs.Layout.{form_of, slices_by}
 use Rattle.macho_slices.specs.Rules as fat
 use Rattle.macho_cmds.specs.declared.mach_image.Image.{Image}
 use Rattle.macho_cmds.specs.declared.refusal.MachRefusal.{MachRefusal}
-use Rattle.macho_cmds.specs.Layout.{image_bytes}
 use Rattle.macho_cmds.specs.Images.{image_of}
 use Rattle.macho_cmds.specs.Rules as macho
 use Rattle.macho_cmds.specs.Refusals as macho_refusals
-use Rattle.cs_directory.specs.Directory.{ident_at}
+use Rattle.cs_directory.specs.Directory.{ident_at, flag_mask}
 use Rattle.cs_blob.specs.Signature.{Signature}
 use Rattle.cs_blob.specs.Signed.{signature}
 use Rattle.cs_blob.specs.declared.refusal.BlobRefusal.{BlobRefusal}
@@ -19,11 +19,8 @@ use Rattle.cs_blob.specs.Rules as signed
 use Rattle.cs_blob.specs.Refusals as signed_refusals
 use Rattle.cs_verify.specs.declared.report.SliceReport.{SliceReport}
 use Rattle.cs_verify.specs.declared.report.SliceReport.TheVariants.{Refused, Accepted}
-use Rattle.cs_verify.specs.Pages.{Hash, part, page_count, bad_pages}
-
--- the flags of a code directory that have effect
-abbrev pub flag_mask : ℕ
-flag_mask = 0x00033f02
+use Rattle.pg_digest.specs.Kinds.{Hash}
+use Rattle.cs_verify.specs.Pages.{page_count, bad_pages}
 
 -- an image and its signature
 abbrev pub accepted : Hash → List ℕ → Image → Signature → SliceReport
@@ -39,13 +36,13 @@ signed_report hash bytes slice image sig None = accepted hash bytes image (signa
 -- the bytes of an image, by what its load commands say
 abbrev pub image_report : Hash → List ℕ → Range → Image → SliceReport
 image_report hash bytes slice image =
-    signed_report hash bytes slice image (part bytes image.sig) (signed.broken hash (part bytes image.sig) slice)
+    signed_report hash bytes slice image (bytes_in bytes image.sig) (signed.broken hash (bytes_in bytes image.sig) slice)
 
 -- a slice, by the first rule that it breaks as an image
 abbrev pub framed_report : Hash → List ℕ → Range → Option MachRefusal → SliceReport
 framed_report hash file slice (Some refusal) = Refused (macho_refusals.refusal_of refusal)
 framed_report hash file slice None =
-    image_report hash (image_bytes file slice) slice (image_of (image_bytes file slice))
+    image_report hash (bytes_in file slice) slice (image_of (bytes_in file slice))
 
 -- what is said of one slice of a file
 unfoldable pub slice_report : Hash → List ℕ → Range → SliceReport

@@ -7,24 +7,11 @@ ghost use Rattle.cs_verify.specs.Pages as pages;
 
 use crate::report::BadPage;
 use cs_directory::Directory;
-use pg_bytes::Range;
 use pg_digest::{Digester, digest_bytes, digest_of};
 use std::alloc::{AllocError, Global};
 
 /// How many bytes a hash page has.
 const HASH_PAGE: u64 = 4096;
-
-/// The bytes of a range.
-#[tactic(auto, unfolding(crate::specs::Pages::part))]
-pub fn part<'a>(bytes: &'a [u8], range: &Range) -> &'a [u8]
-    requires { range.now.at + range.now.len ≤ length bytes.now }
-    ensures bytes { result.now ≡ pages.part bytes.now range.now }
-    ensures len { length result.now ≡ range.now.len }
-{
-    let (_, rest) = bytes.split_at(range.at as usize);
-    let (part, _) = rest.split_at(range.len as usize);
-    part
-}
 
 /// How many hash pages so many bytes reach.
 pub fn page_count(limit: u64) -> u64

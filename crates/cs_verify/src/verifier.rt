@@ -9,12 +9,12 @@ ghost use Rattle.cs_verify.specs.Report.{IsReport, accepted, image_report, slice
 ghost use Rattle.cs_verify.specs.Report as saying;
 ghost use Rattle.cs_verify.specs.Fails.{Refuses};
 
-use crate::pages::{bad_pages, page_count, part};
+use crate::pages::{bad_pages, page_count};
 use crate::report::{BadPages, SliceReport, VerifyFail};
 use cs_blob::{Blob, BlobFail, blob};
 use macho_cmds::{Image, MachFail, image};
 use macho_slices::slices;
-use pg_bytes::{Octets, Range};
+use pg_bytes::{Octets, Range, bytes_in};
 use pg_digest::Digester;
 use std::alloc::{AllocError, Global};
 
@@ -61,7 +61,7 @@ fn slice_report<D: Digester>(
     ensures { IfOk result (λ said. said ≡ slice_report D.hash bytes.now slice.now) }
 {
     match image(alloc, bytes, slice) {
-        Ok(image) => image_report(alloc, part(bytes, slice), slice, &image, d),
+        Ok(image) => image_report(alloc, bytes_in(bytes, slice), slice, &image, d),
         Err(MachFail::Refused(refusal)) => Ok(SliceReport::Refused(refusal.into())),
         Err(MachFail::NoMemory) => Err(AllocError),
     }
@@ -79,7 +79,7 @@ fn image_report<D: Digester>(
     requires whole { length bytes.now ≡ slice.now.len }
     ensures { IfOk result (λ said. said ≡ image_report D.hash bytes.now slice.now image.now) }
 {
-    let signature = copy_of(alloc, part(bytes, &image.sig))?;
+    let signature = copy_of(alloc, bytes_in(bytes, &image.sig))?;
     match blob(alloc, signature, slice, d) {
         Ok(blob) => accepted(alloc, bytes, image, &blob, d),
         Err(BlobFail::Refused(refusal)) => Ok(SliceReport::Refused(refusal.into())),

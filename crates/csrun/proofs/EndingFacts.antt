@@ -25,7 +25,8 @@ use Rattle.csrun.specs.declared.event.Entry.{Entry}
 use Rattle.csrun.specs.Pages.{pages_of}
 use Rattle.csrun.specs.Flags.{guarded}
 use Rattle.csrun.specs.Machine.{Machine, PlainFile}
-use Rattle.csrun.specs.Steps.{Hash, meets, stripped, attach_beside, file_step, verdict, given, enter_step, enter_page, is_page_of, reply_of, after}
+use Rattle.pg_digest.specs.Kinds.{Hash}
+use Rattle.csrun.specs.Steps.{meets, stripped, attach_beside, file_step, verdict, given, enter_step, enter_page, is_page_of, reply_of, after}
 use Rattle.csrun.specs.Calls.{replay, solo}
 use Rattle.csrun.specs.Legal.{Answered, Legal}
 use Rattle.csrun.specs.Sealing.{IsOpening}

@@ -15,7 +15,8 @@ use Rattle.csrun.specs.Membership.{IsIn}
 use Rattle.csrun.specs.Pages.{page_at}
 use Rattle.csrun.specs.Flags.{guarded}
 use Rattle.csrun.specs.Machine.{PlainFile}
-use Rattle.csrun.specs.Steps.{Hash, covers, covering, within, digest_of, verdict_under, verdict, is_record_of, with_execute, given, without_execute, stripped, enter_step, enter_page, is_page_of}
+use Rattle.pg_digest.specs.Kinds.{Hash}
+use Rattle.csrun.specs.Steps.{covers, covering, within, digest_of, verdict_under, verdict, is_record_of, with_execute, given, without_execute, stripped, enter_step, enter_page, is_page_of}
 use Rattle.csrun.specs.Sealing.{Sealed}
 use Rattle.csrun.proofs.MembershipFacts.{IsIn-left, IsIn-right, IsIn-either, IsIn-map}
 use Rattle.csrun.proofs.PageFacts.{page_at-set}

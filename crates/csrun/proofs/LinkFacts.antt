@@ -15,7 +15,7 @@ use Rattle.csrun.specs.declared.event.Reply.{Reply}
 use Rattle.csrun.specs.declared.event.Reply.TheVariants as reply
 use Rattle.csrun.specs.declared.event.Entry.{Entry}
 use Rattle.csrun.specs.Membership.{IsIn}
-use Rattle.csrun.specs.Steps.{Hash}
+use Rattle.pg_digest.specs.Kinds.{Hash}
 use Rattle.csrun.specs.Calls.{Call, Spawn, Map, Attach, WriteByte, Fault, map_address, where_accepted, after_insert, after_read, after_listed, after_lookup, after_resolve, after_enter, next_event}
 use Rattle.csrun.specs.Legal.{IsNamed, AttachesAdmitted, AddsInserted, EntersResolved, IsLinked}
 

@@ -3,7 +3,7 @@ use Rattle.std.proofs.Common.{◌≡◌, ℕ, ◌+◌, ◌≤◌, List, [], ◌�
 use Rattle.std.proofs.lemmas.List.{length-append, append-nil, drop_all}
 use Rattle.csrun.specs.declared.event.Entry.{Entry}
 use Rattle.csrun.specs.Machine.{Machine}
-use Rattle.csrun.specs.Steps.{Hash}
+use Rattle.pg_digest.specs.Kinds.{Hash}
 use Rattle.csrun.specs.Calls.{Call, Spawn, Map, Attach, entries_of, replay, solo}
 use Rattle.csrun.specs.declared.scene.Touch.{Touch}
 use Rattle.csrun.specs.Play.{Plays, call_of}

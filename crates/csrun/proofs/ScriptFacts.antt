@@ -5,7 +5,8 @@ use Rattle.csrun.specs.declared.event.Event.{Event}
 use Rattle.csrun.specs.declared.event.Entry.{Entry}
 use Rattle.csrun.specs.Membership.{IsIn}
 use Rattle.csrun.specs.Machine.{Machine}
-use Rattle.csrun.specs.Steps.{Hash, after}
+use Rattle.pg_digest.specs.Kinds.{Hash}
+use Rattle.csrun.specs.Steps.{after}
 use Rattle.csrun.specs.Calls.{Call, Spawn, Map, Attach, WriteByte, Fault, next_event, entry_of, enter_then, entries_from, entries_of, replay, solo}
 use Rattle.csrun.specs.Legal.{IsLinked, Links, Follows, AreOf, Scripted, Legal}
 use Rattle.csrun.proofs.MembershipFacts.{IsIn-right, IsIn-left}

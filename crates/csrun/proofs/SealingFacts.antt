@@ -22,7 +22,8 @@ use Rattle.csrun.specs.Membership.{IsIn}
 use Rattle.csrun.specs.Pages.{page_at}
 use Rattle.csrun.specs.Flags.{guarded, with_valid}
 use Rattle.csrun.specs.Machine.{Machine, PlainFile, PlainProcess}
-use Rattle.csrun.specs.Steps.{Hash, stripped, attach_beside, attach_step, write_byte, enter_page, meets, file_step, process_step, reply_of, after}
+use Rattle.pg_digest.specs.Kinds.{Hash}
+use Rattle.csrun.specs.Steps.{stripped, attach_beside, attach_step, write_byte, enter_page, meets, file_step, process_step, reply_of, after}
 use Rattle.csrun.specs.Calls.{replay}
 use Rattle.csrun.specs.Legal.{Answered, IsLinked, Links, AttachesAdmitted}
 use Rattle.csrun.specs.Sealing.{IsOpening, content, content_after, Sealed, Admitted, IsSealedNow, SealInv, SealedThroughout}

@@ -5,7 +5,8 @@ use Rattle.csrun.specs.declared.event.Event.{Event}
 use Rattle.csrun.specs.declared.event.Reply.{Reply}
 use Rattle.csrun.specs.declared.event.Entry.{Entry}
 use Rattle.csrun.specs.Machine.{Machine}
-use Rattle.csrun.specs.Steps.{Hash, reply_of, after}
+use Rattle.pg_digest.specs.Kinds.{Hash}
+use Rattle.csrun.specs.Steps.{reply_of, after}
 use Rattle.csrun.specs.Calls.{Call, next_event, entry_of, enter_then, entries_from, entries_of, replay, solo}
 use Rattle.csrun.specs.Legal.{Stamped, Answered, Follows, AreOf, Scripted, Legal}
 use Rattle.csrun.proofs.ScriptFacts.{complete}

@@ -15,7 +15,8 @@ use Rattle.csrun.specs.declared.event.Reply.{Reply}
 use Rattle.csrun.specs.declared.event.Reply.TheVariants as reply
 use Rattle.csrun.specs.declared.event.Entry.{Entry}
 use Rattle.csrun.specs.Machine.{Machine}
-use Rattle.csrun.specs.Steps.{Hash, reply_of, after}
+use Rattle.pg_digest.specs.Kinds.{Hash}
+use Rattle.csrun.specs.Steps.{reply_of, after}
 
 -- a call line of a script
 pub data Call : Type 0 where

@@ -24,7 +24,8 @@ use Rattle.csrun.specs.declared.event.Entry.{Entry}
 use Rattle.csrun.specs.Pages.{pages_of, padded}
 use Rattle.csrun.specs.Flags.{guarded, enforcement}
 use Rattle.csrun.specs.Machine.{Machine, fresh}
-use Rattle.csrun.specs.Steps.{Hash, verdict}
+use Rattle.pg_digest.specs.Kinds.{Hash}
+use Rattle.csrun.specs.Steps.{verdict}
 use Rattle.csrun.specs.Calls.{Call, Spawn, Map, Attach, replay, solo}
 use Rattle.csrun.specs.Legal.{Legal}
 use Rattle.csrun.specs.Sealing.{SealedThroughout}

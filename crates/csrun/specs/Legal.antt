@@ -17,7 +17,8 @@ use Rattle.csrun.specs.declared.event.Reply.TheVariants as reply
 use Rattle.csrun.specs.declared.event.Entry.{Entry}
 use Rattle.csrun.specs.Membership.{IsIn}
 use Rattle.csrun.specs.Machine.{Machine}
-use Rattle.csrun.specs.Steps.{Hash, reply_of, after}
+use Rattle.pg_digest.specs.Kinds.{Hash}
+use Rattle.csrun.specs.Steps.{reply_of, after}
 use Rattle.csrun.specs.Calls.{Call, next_event}
 
 -- the stamps rise by one, from this on

@@ -7,7 +7,7 @@ use Rattle.csrun.specs.declared.scene.Touch.TheVariants as touch
 use Rattle.csrun.specs.View.{file_of}
 use Rattle.csrun.specs.ProcessView.{process_of}
 use Rattle.csrun.specs.Machine.{Machine}
-use Rattle.csrun.specs.Steps.{Hash}
+use Rattle.pg_digest.specs.Kinds.{Hash}
 use Rattle.csrun.specs.Calls.{Call, WriteByte, Fault, entries_of, replay}
 
 -- the machine that the program's parts stand for

@@ -15,7 +15,8 @@ use Rattle.csrun.specs.Pages.{page_at}
 use Rattle.csrun.specs.Flags.{guarded, with_valid}
 use Rattle.csrun.specs.declared.region.Record.{Record}
 use Rattle.csrun.specs.Machine.{Machine}
-use Rattle.csrun.specs.Steps.{Hash, covers, within, digest_of}
+use Rattle.pg_digest.specs.Kinds.{Hash}
+use Rattle.csrun.specs.Steps.{covers, within, digest_of}
 use Rattle.csrun.specs.Calls.{replay}
 use Rattle.csrun.specs.Legal.{IsNamed}
 

@@ -2,7 +2,7 @@
 use Rattle.std.specs.Prelude.{ℕ, ◌+◌, ◌-◌, ◌*◌, ◌/◌, Bool, true, false, ◌&&◌, ◌||◌, nat_lt, nat_le, ◌==◌, if◌then◌else◌, List, [], ◌∷◌, ◌++◌, map, find, position, take, drop, length, Option, Some, None, slice_set}
 use Rattle.std.specs.List.{list_any}
 use Rattle.std.specs.Str.{bytes_eq}
-use Rattle.pg_digest.specs.declared.kinds.HashKind.{HashKind}
+use Rattle.pg_digest.specs.Kinds.{Hash}
 use Rattle.cs_directory.specs.Layout.{code_slots, limit, kind}
 use Rattle.cs_directory.specs.Directory.{slot_at, cdhash}
 use Rattle.csrun.specs.declared.region.Region.{Region}
@@ -29,10 +29,6 @@ use Rattle.csrun.specs.declared.event.Reply.TheVariants as reply
 use Rattle.csrun.specs.Flags.{guarded, with_valid}
 use Rattle.csrun.specs.Machine.{Machine, PlainFile, PlainProcess}
 use Rattle.csrun.specs.Pages.{page_at, pages_of}
-
--- a hash function: the digest of some bytes by a hash type
-abbrev pub Hash : Type 0
-Hash = HashKind → List ℕ → List ℕ
 
 -- ---- the verdict
 

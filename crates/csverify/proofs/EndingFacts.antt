@@ -10,7 +10,7 @@ use Rattle.macho_slices.specs.declared.refusal.FatRefusal.{FatRefusal}
 use Rattle.macho_slices.specs.Rules as fat
 use Rattle.macho_slices.specs.Refusals.{refusal_of}
 use Rattle.cs_verify.specs.declared.report.SliceReport.{SliceReport}
-use Rattle.cs_verify.specs.Pages.{Hash}
+use Rattle.pg_digest.specs.Kinds.{Hash}
 use Rattle.cs_verify.specs.Report.{IsReport}
 use Rattle.csverify.specs.Ending.{Ending, most, refused, reported, too_large, verified, of_file, IsVerdict, IsWorded}
 

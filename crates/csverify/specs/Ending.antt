@@ -13,7 +13,7 @@ use Rattle.macho_slices.specs.declared.refusal.FatRefusal.{FatRefusal}
 use Rattle.macho_slices.specs.Rules as fat
 use Rattle.macho_slices.specs.Refusals.{refusal_of}
 use Rattle.cs_verify.specs.declared.report.SliceReport.{SliceReport}
-use Rattle.cs_verify.specs.Pages.{Hash}
+use Rattle.pg_digest.specs.Kinds.{Hash}
 use Rattle.cs_verify.specs.Report.{report, all_match}
 use Rattle.cs_verify.specs.Text.{verify_text}
 use Rattle.csverify.specs.Words.{path_of}

@@ -3,7 +3,8 @@
 use Rattle.std.specs.Prelude.{◌≡◌, ℕ, ◌+◌, ◌≤◌, List, All, None, unwrap_or}
 use Rattle.pg_bytes.specs.declared.fields.Range.{Range}
 use Rattle.macho_cmds.specs.declared.mach_image.Image.{Image}
-use Rattle.macho_cmds.specs.Layout.{image_bytes, cputype, cpusubtype, filetype, command_count}
+use Rattle.pg_bytes.specs.Ranges.{bytes_in}
+use Rattle.macho_cmds.specs.Layout.{cputype, cpusubtype, filetype, command_count}
 use Rattle.macho_cmds.specs.Commands.{IsSegmentWithin, segments_among}
 use Rattle.macho_cmds.specs.Rules.{signature_place, signature, broken}
 
@@ -21,7 +22,7 @@ image_of bytes = record {
 -- The slice of the file is an image that breaks no rule, and this is what it says.
 pub record IsImage (file : List ℕ) (slice : Range) (found : Image) : Type 0 where
   pub unbroken : broken file slice ≡ None
-  pub says : found ≡ image_of (image_bytes file slice)
+  pub says : found ≡ image_of (bytes_in file slice)
 
 -- The signature, its load command and the segments lie within the slice.
 pub record IsInside (slice : Range) (found : Image) : Type 0 where

@@ -7,10 +7,6 @@ use Rattle.pg_bytes.specs.Fields.{le32_at, le64_at}
 use Rattle.pg_bytes.specs.declared.fields.Range.{Range}
 use Rattle.macho_cmds.specs.declared.segment.Segment.{Segment}
 
--- the bytes of a slice of a file, which are one image
-abbrev pub image_bytes : List ℕ → Range → List ℕ
-image_bytes file slice = take slice.len (drop slice.at file)
-
 -- the number by which an image of 64 bits is told
 abbrev pub magic : List ℕ → ℕ
 magic bytes = le32_at bytes 0

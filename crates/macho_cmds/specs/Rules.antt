@@ -10,7 +10,8 @@ use Rattle.macho_cmds.specs.declared.refusal.MachRefusal.{MachRefusal}
 use Rattle.macho_cmds.specs.declared.refusal.MachRefusal.TheVariants.{Short, BadMagic, CommandBad, SegmentBad, NoSignature, TwoSignatures, SignatureOutOfSlice, SliceMisaligned}
 use Rattle.macho_cmds.specs.declared.refusal.MachFail.{MachFail}
 use Rattle.macho_cmds.specs.declared.refusal.MachFail.TheVariants.{Refused, NoMemory}
-use Rattle.macho_cmds.specs.Layout.{image_bytes, magic, command_count, commands_end, size, place_of, places, is_segment, is_signature, fileoff, filesize, section_count, signature_range}
+use Rattle.pg_bytes.specs.Ranges.{bytes_in}
+use Rattle.macho_cmds.specs.Layout.{magic, command_count, commands_end, size, place_of, places, is_segment, is_signature, fileoff, filesize, section_count, signature_range}
 
 -- on the header, for a slice that begins at `start` in its file
 abbrev pub header_rules : ℕ → List ℕ → List (Rule MachRefusal)
@@ -79,7 +80,7 @@ rules start bytes = header_rules start bytes ++ (command_rules bytes ++ signatur
 
 -- the refusal of the first rule that the slice of the file breaks, or none where it is an image
 unfoldable pub broken : List ℕ → Range → Option MachRefusal
-broken file slice = first (rules slice.at (image_bytes file slice))
+broken file slice = first (rules slice.at (bytes_in file slice))
 
 -- an error that refuses gives this refusal; out of memory is tied to nothing
 abbrev pub Refuses : Option MachRefusal → MachFail → Type 0

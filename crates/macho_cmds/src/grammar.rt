@@ -11,10 +11,10 @@ ghost use Rattle.macho_cmds.specs.Images.{IsImage, IsInside};
 
 use crate::commands::{SEGMENT, SIGNATURE, checked, commands_end, segment_at, signature_range};
 use crate::mach_image::Image;
-use crate::numbers::{number, part};
+use crate::numbers::number;
 use crate::refusal::{MachFail, MachRefusal};
 use crate::segment::{Segment, Segments};
-use pg_bytes::Range;
+use pg_bytes::{Range, bytes_in};
 use std::alloc::Global;
 
 /// The magic of an image of 64 bits.
@@ -28,7 +28,7 @@ pub fn image(alloc: Global, bytes: &[u8], slice: &Range) -> Result<Image, MachFa
     ensures inside { IfOk result (IsInside slice.now) }
     ensures refused { IfErr result (Refuses (broken bytes.now slice.now)) }
 {
-    let bytes = part(bytes, slice);
+    let bytes = bytes_in(bytes, slice);
     headed(bytes, slice.at)?;
     let commands = walked(alloc, bytes)?;
     let (sig_at, sig) = signed(bytes, commands.signature)?;

@@ -1,10 +1,9 @@
-//! Numbers and parts at places that are known to be within the bytes.
+//! Numbers and names at places that are known to be within the bytes.
 
 ghost use Rattle.std.specs.Prelude.{◌≡◌, ◌+◌, ◌≤◌, length, take, drop};
 ghost use Rattle.pg_bytes.specs.Fields.{le32_at, le64_at};
-ghost use Rattle.macho_cmds.specs.Layout.{image_bytes};
 
-use pg_bytes::{Range, le32, le64};
+use pg_bytes::{le32, le64};
 
 /// The little-endian number of the four bytes at `at`.
 pub fn number(bytes: &[u8], at: u64) -> u32
@@ -31,15 +30,4 @@ pub fn name(bytes: &[u8], at: u64) -> [u8; 16]
     let mut name = [0; 16];
     name.copy_from_slice(&bytes[at..at + 16]);
     name
-}
-
-/// The bytes of a slice of a file.
-pub fn part<'a>(file: &'a [u8], slice: &Range) -> &'a [u8]
-    requires { slice.now.at + slice.now.len ≤ length file.now }
-    ensures bytes { result.now ≡ image_bytes file.now slice.now }
-    ensures len { length result.now ≡ slice.now.len }
-{
-    let (_, rest) = file.split_at(slice.at as usize);
-    let (part, _) = rest.split_at(slice.len as usize);
-    part
 }

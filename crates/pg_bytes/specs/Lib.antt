@@ -1,4 +1,5 @@
 pub mod Counts
 pub mod Fields
+pub mod Ranges
 pub mod Codes
 pub mod Rules

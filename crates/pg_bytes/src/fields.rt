@@ -2,6 +2,7 @@
 
 ghost use Rattle.std.specs.Prelude.{◌≡◌, ◌+◌, ◌≤◌, ◌↔◌, length, drop, IsSome, IfSome};
 ghost use Rattle.pg_bytes.specs.Fields.{field, be32_at, be64_at, le32_at, le64_at};
+ghost use Rattle.pg_bytes.specs.Ranges.{bytes_in};
 
 use byteorder::{BigEndian, ByteOrder, LittleEndian};
 
@@ -10,6 +11,18 @@ use byteorder::{BigEndian, ByteOrder, LittleEndian};
 pub struct Range {
     pub at: u64,
     pub len: u64,
+}
+
+/// The bytes of a range, which ends within the text.
+#[tactic(auto, unfolding(crate::specs::Ranges::bytes_in))]
+pub fn bytes_in<'a>(bytes: &'a [u8], range: &Range) -> &'a [u8]
+    requires within { range.now.at + range.now.len ≤ length bytes.now }
+    ensures bytes { result.now ≡ bytes_in bytes.now range.now }
+    ensures len { length result.now ≡ range.now.len }
+{
+    let (_, rest) = bytes.split_at(range.at as usize);
+    let (part, _) = rest.split_at(range.len as usize);
+    part
 }
 
 /// The bytes from a place on; `None` exactly where fewer than `size` stand there.

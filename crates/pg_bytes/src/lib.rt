@@ -10,7 +10,7 @@ mod octets;
 mod status;
 mod steps;
 
-pub use fields::{Range, be32, be64, le32, le64};
+pub use fields::{Range, be32, be64, bytes_in, le32, le64};
 pub use octets::Octets;
 pub use status::{Status, Which, code};
 pub use steps::Steps;

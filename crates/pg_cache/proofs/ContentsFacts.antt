@@ -5,7 +5,8 @@ use Rattle.std.specs.Option.{option_map}
 use Rattle.std.proofs.lemmas.Grind.{common_steps}
 use Rattle.std.proofs.lemmas.Option.{slice_get_within, get_or_from_slice_get, slice_get-get_or}
 use Rattle.pg_io.specs.Pager.{PagerNow, ToldPages, TellsWhole, after_call, with_page, page_size}
-use Rattle.pg_cache.specs.Held.{Held, find_held, without, changed, patched, dirtied, cleaned}
+use Rattle.pg_io.specs.MemPages.{written_over}
+use Rattle.pg_cache.specs.Held.{Held, find_held, without, changed, dirtied, cleaned}
 use Rattle.pg_cache.specs.Cache.{IsKept, AreKept, IsSaved}
 use Rattle.pg_cache.specs.Contents.{bytes_or, overlaid, with_piece}
 use Rattle.pg_cache.proofs.HeldFacts.{found_page, find-without, find-changed, find-changed_same}
@@ -46,14 +47,14 @@ overlaid_moved held held' from (suc i) page whole (b ∷ bs) at others here =
 
 -- a piece was put into one page
 pub overlaid_put : (held held' : List Held) (from i page at : ℕ) (piece : List ℕ) (entry : Held) (pages : List (List ℕ)) → page ≡ from + i → ((q : ℕ) → q ≢ page → find_held held' q ≡ find_held held q)
-    → find_held held page ≡ Some entry → find_held held' page ≡ Some (dirtied at piece entry) → overlaid held' from pages ≡ slice_set (overlaid held from pages) i (patched (get_or (overlaid held from pages) i []) at piece)
+    → find_held held page ≡ Some entry → find_held held' page ≡ Some (dirtied at piece entry) → overlaid held' from pages ≡ slice_set (overlaid held from pages) i (written_over (get_or (overlaid held from pages) i []) at piece)
 overlaid_put held held' from i page at piece entry [] place others found now = refl
 overlaid_put held held' from zero page at piece entry (b ∷ bs) place others found now =
     let first : page ≡ from = omega arith in
     let was : bytes_or (find_held held from) b ≡ entry.bytes = ap (λ q. bytes_or (find_held held q) b) (sym first) ∙ ap (λ o. bytes_or o b) found in
-    let is : bytes_or (find_held held' from) b ≡ patched entry.bytes at piece = ap (λ q. bytes_or (find_held held' q) b) (sym first) ∙ ap (λ o. bytes_or o b) now in
+    let is : bytes_or (find_held held' from) b ≡ written_over entry.bytes at piece = ap (λ q. bytes_or (find_held held' q) b) (sym first) ∙ ap (λ o. bytes_or o b) now in
     let tail = overlaid_others held held' (suc from) page bs (omega arith) others in
-    ap (λ (x : List ℕ). x ∷ overlaid held' (suc from) bs) (is ∙ ap (λ (x : List ℕ). patched x at piece) (sym was)) ∙ ap (λ (xs : List (List ℕ)). patched (bytes_or (find_held held from) b) at piece ∷ xs) tail
+    ap (λ (x : List ℕ). x ∷ overlaid held' (suc from) bs) (is ∙ ap (λ (x : List ℕ). written_over x at piece) (sym was)) ∙ ap (λ (xs : List (List ℕ)). written_over (bytes_or (find_held held from) b) at piece ∷ xs) tail
 overlaid_put held held' from (suc i) page at piece entry (b ∷ bs) place others found now =
     let head = ap (λ o. bytes_or o b) (others from (λ e. absurd (omega arith))) in
     let tail = overlaid_put held held' (suc from) i page at piece entry bs (omega arith) others found now in
@@ -61,15 +62,15 @@ overlaid_put held held' from (suc i) page at piece entry (b ∷ bs) place others
 
 -- one page was written through, with a piece over what it held
 pub overlaid_written : (held held' : List Held) (from i page at : ℕ) (piece whole : List ℕ) (pages : List (List ℕ)) → page ≡ from + i → ((q : ℕ) → q ≢ page → find_held held' q ≡ find_held held q)
-    → ((b : List ℕ) → slice_get pages i ≡ Some b → patched (bytes_or (find_held held page) b) at piece ≡ whole) → bytes_or (find_held held' page) whole ≡ whole
-    → overlaid held' from (slice_set pages i whole) ≡ slice_set (overlaid held from pages) i (patched (get_or (overlaid held from pages) i []) at piece)
+    → ((b : List ℕ) → slice_get pages i ≡ Some b → written_over (bytes_or (find_held held page) b) at piece ≡ whole) → bytes_or (find_held held' page) whole ≡ whole
+    → overlaid held' from (slice_set pages i whole) ≡ slice_set (overlaid held from pages) i (written_over (get_or (overlaid held from pages) i []) at piece)
 overlaid_written held held' from i page at piece whole [] place others was now = refl
 overlaid_written held held' from zero page at piece whole (b ∷ bs) place others was now =
     let first : page ≡ from = omega arith in
-    let old = subst (λ q. patched (bytes_or (find_held held q) b) at piece ≡ whole) first (was b refl) in
+    let old = subst (λ q. written_over (bytes_or (find_held held q) b) at piece ≡ whole) first (was b refl) in
     let new = subst (λ q. bytes_or (find_held held' q) whole ≡ whole) first now in
     let tail = overlaid_others held held' (suc from) page bs (omega arith) others in
-    ap (λ (x : List ℕ). x ∷ overlaid held' (suc from) bs) (new ∙ sym old) ∙ ap (λ (xs : List (List ℕ)). patched (bytes_or (find_held held from) b) at piece ∷ xs) tail
+    ap (λ (x : List ℕ). x ∷ overlaid held' (suc from) bs) (new ∙ sym old) ∙ ap (λ (xs : List (List ℕ)). written_over (bytes_or (find_held held from) b) at piece ∷ xs) tail
 overlaid_written held held' from (suc i) page at piece whole (b ∷ bs) place others was now =
     let head = ap (λ o. bytes_or o b) (others from (λ e. absurd (omega arith))) in
     let tail = overlaid_written held held' (suc from) i page at piece whole bs (omega arith) others was now in
@@ -193,23 +194,23 @@ now-put held (Some t) page at piece entry found = ap Some (overlaid_put held (ch
 
 -- a resident page was written through
 pub now-written : (held : List Held) (told : Option ToldPages) (page at : ℕ) (piece : List ℕ) (entry : Held) → find_held held page ≡ Some entry
-    → now_of (changed (cleaned (patched entry.bytes at piece)) held page) (option_map (with_page page (patched entry.bytes at piece)) told) ≡ option_map (with_piece page at piece) (now_of held told)
+    → now_of (changed (cleaned (written_over entry.bytes at piece)) held page) (option_map (with_page page (written_over entry.bytes at piece)) told) ≡ option_map (with_piece page at piece) (now_of held told)
 now-written held None page at piece entry found = refl
 now-written held (Some t) page at piece entry found =
-    let whole = patched entry.bytes at piece in
+    let whole = written_over entry.bytes at piece in
     ap Some (overlaid_written held (changed (cleaned whole) held page) 0 page page at piece whole t.holds (omega arith)
     (λ q apart. find-changed (cleaned whole) held page q (λ h. refl) apart)
-    (λ b there. ap (λ o. patched (bytes_or o b) at piece) found)
+    (λ b there. ap (λ o. written_over (bytes_or o b) at piece) found)
     (ap (λ o. bytes_or o whole) (find-changed_same (cleaned whole) held page entry (λ h. refl) found)))
 
 -- a page that is not resident was written through
 pub now-written_absent : (held : List Held) (told : Option ToldPages) (page at : ℕ) (piece whole : List ℕ) → find_held held page ≡ None
-    → IfSome told (λ t. (b : List ℕ) → slice_get t.holds page ≡ Some b → patched b at piece ≡ whole)
+    → IfSome told (λ t. (b : List ℕ) → slice_get t.holds page ≡ Some b → written_over b at piece ≡ whole)
     → now_of held (option_map (with_page page whole) told) ≡ option_map (with_piece page at piece) (now_of held told)
 now-written_absent held None page at piece whole absent was = refl
 now-written_absent held (Some t) page at piece whole absent was =
     ap Some (overlaid_written held held 0 page page at piece whole t.holds (omega arith) (λ q apart. refl)
-    (λ b there. ap (λ o. patched (bytes_or o b) at piece) absent ∙ was b there)
+    (λ b there. ap (λ o. written_over (bytes_or o b) at piece) absent ∙ was b there)
     (ap (λ o. bytes_or o whole) absent))
 
 -- ---- what is known of them
@@ -261,19 +262,19 @@ spare_here held None page s bytes absent same known = tt
 spare_here held (Some t) page s bytes absent same known = λ b there. ap (λ o. bytes_or o b) absent ∙ known b there ∙ sym same
 
 pub spare_was : (told : Option ToldPages) (page at : ℕ) (piece : List ℕ) (s : Held) → IfSome told (λ t. (b : List ℕ) → slice_get t.holds page ≡ Some b → b ≡ s.bytes)
-    → IfSome told (λ t. (b : List ℕ) → slice_get t.holds page ≡ Some b → patched b at piece ≡ patched s.bytes at piece)
+    → IfSome told (λ t. (b : List ℕ) → slice_get t.holds page ≡ Some b → written_over b at piece ≡ written_over s.bytes at piece)
 spare_was None page at piece s known = tt
-spare_was (Some t) page at piece s known = λ b there. ap (λ x. patched x at piece) (known b there)
+spare_was (Some t) page at piece s known = λ b there. ap (λ x. written_over x at piece) (known b there)
 
 -- a whole page over another
-pub whole_over : (b whole : List ℕ) → length b ≤ length whole → patched b 0 whole ≡ whole
+pub whole_over : (b whole : List ℕ) → length b ≤ length whole → written_over b 0 whole ≡ whole
 whole_over b whole short =
     ap (λ (l : List ℕ). whole ++ l) (drop_of_length-le b {i = 0 + length whole} (omega arith)) ∙ append-nil whole
 
-pub whole_was : (pager : PagerNow) (page : ℕ) (whole : List ℕ) → TellsWhole pager → length whole ≡ page_size → IfSome pager.told (λ t. (b : List ℕ) → slice_get t.holds page ≡ Some b → patched b 0 whole ≡ whole)
+pub whole_was : (pager : PagerNow) (page : ℕ) (whole : List ℕ) → TellsWhole pager → length whole ≡ page_size → IfSome pager.told (λ t. (b : List ℕ) → slice_get t.holds page ≡ Some b → written_over b 0 whole ≡ whole)
 whole_was pager page whole tells long = was_of pager.told tells
   where
-    was_of : (told : Option ToldPages) → TellsWhole (record pager { told = told }) → IfSome told (λ t. (b : List ℕ) → slice_get t.holds page ≡ Some b → patched b 0 whole ≡ whole)
+    was_of : (told : Option ToldPages) → TellsWhole (record pager { told = told }) → IfSome told (λ t. (b : List ℕ) → slice_get t.holds page ≡ Some b → written_over b 0 whole ≡ whole)
     was_of None w = tt
     was_of (Some t) w = λ b there.
         let inside = slice_get_within t.holds page b there in

@@ -8,7 +8,8 @@ use Rattle.std.proofs.lemmas.Option.{slice_get_past}
 use Rattle.pg_cache.specs.Steps.{Saves, WritesBack, WritesThrough, Evicts, Leaves, Fills, Enters, TakesPlace, Brings}
 use Rattle.pg_cache.specs.declared.fault.PagerFault.{PagerFault}
 use Rattle.pg_io.specs.Pager.{PagerNow, ToldPages, TellsWhole, IsRead, IsWrite, after_call, with_page}
-use Rattle.pg_cache.specs.Held.{Held, clean, find_held, without, fronted, fronted_by, changed, patched, dirtied, cleaned}
+use Rattle.pg_io.specs.MemPages.{written_over}
+use Rattle.pg_cache.specs.Held.{Held, clean, find_held, without, fronted, fronted_by, changed, dirtied, cleaned}
 use Rattle.pg_cache.specs.Cache.{CacheNow, AreKept, IsBeside, IsSound, spare_of}
 use Rattle.pg_cache.proofs.HeldFacts.{found_page, changed-absent, absent-without, absent-take, absent-changed}
 use Rattle.pg_cache.proofs.SoundFacts.{kept_map, kept_find, kept_without, gone_without, kept_take, kept_changed, length-without, length-changed, absent_front, told_written, kept_called, kept_written, kept_absent_written, kept_dirty, kept_saved, get-set_same}
@@ -276,11 +277,11 @@ evicts_ok old saved new page entry found saves leaves =
 
 -- the page in the spare buffer was written through, with bytes written over a part of it
 pub through_spare : (has : Bool) (s : Held) (view old new : CacheNow) (page : ℕ) (failed : Bool) (at : ℕ) (piece : List ℕ) → view ≡ old → view.spare ≡ (if has then Some s else None) → has ≡ true
-    → find_held view.held page ≡ None → IsWrite view.pager page failed (patched s.bytes at piece) new.pager → new ≡ record { held = view.held; limit = view.limit; spare = None; pager = new.pager }
-    → IfSome old.spare (λ held. WritesThrough old page (patched held.bytes at piece) failed new)
+    → find_held view.held page ≡ None → IsWrite view.pager page failed (written_over s.bytes at piece) new.pager → new ≡ record { held = view.held; limit = view.limit; spare = None; pager = new.pager }
+    → IfSome old.spare (λ held. WritesThrough old page (written_over held.bytes at piece) failed new)
 through_spare has s view old new page failed at piece is spare stands absent write others =
     let here : old.spare ≡ Some s = sym (ap (λ (c : CacheNow). c.spare) is) ∙ spare ∙ ap (λ b. if b then Some s else None) stands in
-    subst (λ o. IfSome o (λ held. WritesThrough old page (patched held.bytes at piece) failed new)) (sym here) (through_absent view old new page (patched s.bytes at piece) failed is absent write others)
+    subst (λ o. IfSome o (λ held. WritesThrough old page (written_over held.bytes at piece) failed new)) (sym here) (through_absent view old new page (written_over s.bytes at piece) failed is absent write others)
 
 -- a page that was not resident entered
 none_of : (o : Option Held) → is_some o ≡ false → o ≡ None

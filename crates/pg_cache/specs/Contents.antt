@@ -1,6 +1,7 @@
 -- What pages hold where some of them are resident.
 use Rattle.std.specs.Prelude.{ℕ, suc, List, [], ◌∷◌, Option, Some, None, slice_set, slice_index_or}
-use Rattle.pg_cache.specs.Held.{Held, find_held, patched}
+use Rattle.pg_io.specs.MemPages.{written_over}
+use Rattle.pg_cache.specs.Held.{Held, find_held}
 
 -- the bytes of a page, or else these
 abbrev pub bytes_or : Option Held → List ℕ → List ℕ
@@ -14,4 +15,4 @@ overlaid held page (bytes ∷ others) = bytes_or (find_held held page) bytes ∷
 
 -- the pages with bytes written over a part of one of them
 abbrev pub with_piece : ℕ → ℕ → List ℕ → List (List ℕ) → List (List ℕ)
-with_piece page at piece pages = slice_set pages page (patched (slice_index_or pages page []) at piece)
+with_piece page at piece pages = slice_set pages page (written_over (slice_index_or pages page []) at piece)

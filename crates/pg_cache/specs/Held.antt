@@ -1,5 +1,6 @@
 -- Lists of pages with their bytes.
-use Rattle.std.specs.Prelude.{ℕ, ◌+◌, ◌==◌, List, [], ◌∷◌, ◌++◌, length, take, drop, Bool, true, false, Option, Some, None, if◌then◌else◌}
+use Rattle.std.specs.Prelude.{ℕ, ◌==◌, List, [], ◌∷◌, Bool, true, false, Option, Some, None, if◌then◌else◌}
+use Rattle.pg_io.specs.MemPages.{written_over}
 
 -- a page with its bytes
 pub record Held : Type 0 where
@@ -35,13 +36,9 @@ fronted_by (Some first) held others = first ∷ others
 abbrev pub fronted : List Held → ℕ → List Held
 fronted held page = fronted_by (find_held held page) held (without held page)
 
--- bytes with others written over them at a place
-abbrev pub patched : List ℕ → ℕ → List ℕ → List ℕ
-patched old at bytes = take at old ++ (bytes ++ drop (at + length bytes) old)
-
 -- a page with bytes written over a part of it, which the pager does not have yet
 abbrev pub dirtied : ℕ → List ℕ → Held → Held
-dirtied at bytes held = record { page = held.page; bytes = patched held.bytes at bytes; dirty = true }
+dirtied at bytes held = record { page = held.page; bytes = written_over held.bytes at bytes; dirty = true }
 
 -- a page with these bytes, which the pager has
 abbrev pub cleaned : List ℕ → Held → Held

@@ -2,7 +2,8 @@
 use Rattle.std.specs.Prelude.{ℕ, ◌≡◌, ◌-◌, List, ◌∷◌, length, take, Bool, true, false, MatchBool, Option, Some, None, MatchOption, IfSome, Result, Ok, Err, IfOk, IfErr, nat_le, slice_get, is_err, if◌then◌else◌}
 use Rattle.std.specs.Option.{option_map}
 use Rattle.pg_io.specs.Pager.{page_size, FaultsAfter, IsRead, IsWrite}
-use Rattle.pg_cache.specs.Held.{Held, clean, without, changed, fronted, patched, cleaned}
+use Rattle.pg_io.specs.MemPages.{written_over}
+use Rattle.pg_cache.specs.Held.{Held, clean, without, changed, fronted, cleaned}
 use Rattle.pg_cache.specs.Cache.{CacheNow, resident_page, in_spare, at_hand, victim, contents}
 use Rattle.std.specs.Borrow.{Bor}
 use Rattle.pg_cache.specs.declared.fault.PagerFault.{PagerFault}
@@ -90,13 +91,13 @@ pub record ReadsAndWrites (old : CacheNow) (page at : ℕ) (bytes : List ℕ) (f
   pub unread : Bool
   pub filled : CacheNow
   pub reads : ReadsSpare old page unread filled
-  pub writes : MatchBool unread ((failed ≡ true) × (new ≡ filled)) (IfSome filled.spare (λ held. WritesThrough filled page (patched held.bytes at bytes) failed new))
+  pub writes : MatchBool unread ((failed ≡ true) × (new ≡ filled)) (IfSome filled.spare (λ held. WritesThrough filled page (written_over held.bytes at bytes) failed new))
 
 -- Write: of a resident page the whole new page; of another the data where they are a whole page.
 abbrev pub Writes : CacheNow → ℕ → ℕ → List ℕ → Bool → CacheNow → Type 0
 Writes old page at bytes failed new = MatchOption (resident_page old page)
     (MatchBool (nat_le page_size (length bytes)) (WritesThrough old page bytes failed new) (ReadsAndWrites old page at bytes failed new))
-    (λ held. WritesThrough old page (patched held.bytes at bytes) failed new)
+    (λ held. WritesThrough old page (written_over held.bytes at bytes) failed new)
 
 -- Evict: the page is saved and leaves the list.
 pub record Leaves (old : CacheNow) (held : Held) (result : Result Bool PagerFault) (new : CacheNow) : Type 0 where

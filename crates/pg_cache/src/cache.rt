@@ -1,7 +1,8 @@
 ghost use Rattle.std.specs.Prelude.{◌≡◌, ℕ, IsTrue, ◌+◌, ◌-◌, ◌==◌, ◌<◌, ◌≤◌, [], Ok, Some, None, IsSome, MatchOption, IfSome, IfOk, IfErr, OnOk, OnErr, option_map, is_some, is_err, if◌then◌else◌, length, vec_len, vec_capacity, take, position, slice_get};
 ghost use Rattle.pg_io.specs.Pager.{page_size, FaultsAfter};
 ghost use Rattle.pg_cache.specs.Contents.{with_piece};
-ghost use Rattle.pg_cache.specs.Held.{Held, find_held, changed, fronted, patched, dirtied};
+ghost use Rattle.pg_io.specs.MemPages.{written_over};
+ghost use Rattle.pg_cache.specs.Held.{Held, find_held, changed, fronted, dirtied};
 ghost use Rattle.pg_cache.specs.Place.{IsAt};
 ghost use Rattle.pg_cache.specs.Cache.{CacheNow, resident, resident_page, contents, victim, leaver, in_spare, at_hand, IsSaved, IsSound};
 ghost use Rattle.pg_cache.specs.Steps.{entered, ReadsSpare, Saves, SavesVictim, WritesThrough, Peeks, PeekGives, Fills, Brings, Writes, Evicts};
@@ -301,7 +302,7 @@ impl<P: Pager> Cache<P> {
         requires inside { page < self.old.pager.pages }
         requires there { IsAt self.old.held page place }
         requires fits { at + length bytes.now ≤ page_size }
-        ensures writes { IfSome (resident_page self.old page) (λ held. WritesThrough self.old page (patched held.bytes at bytes.now) (is_err result) self.new) }
+        ensures writes { IfSome (resident_page self.old page) (λ held. WritesThrough self.old page (written_over held.bytes at bytes.now) (is_err result) self.new) }
         ensures contents { contents self.new ≡ (if is_err result then contents self.old else option_map (with_piece page at bytes.now) (contents self.old)) }
         ensures faults { FaultsAfter (is_err result) self.old.pager.faults self.new.pager.faults }
         ensures list { resident self.new ≡ resident self.old }
@@ -344,7 +345,7 @@ impl<P: Pager> Cache<P> {
         requires there { IsSome (in_spare self.old page) }
         requires absent { resident_page self.old page ≡ None }
         requires fits { at + length bytes.now ≤ page_size }
-        ensures writes { IfSome self.old.spare (λ held. WritesThrough self.old page (patched held.bytes at bytes.now) (is_err result) self.new) }
+        ensures writes { IfSome self.old.spare (λ held. WritesThrough self.old page (written_over held.bytes at bytes.now) (is_err result) self.new) }
         ensures contents { contents self.new ≡ (if is_err result then contents self.old else option_map (with_piece page at bytes.now) (contents self.old)) }
         ensures faults { FaultsAfter (is_err result) self.old.pager.faults self.new.pager.faults }
         ensures list { resident self.new ≡ resident self.old }

@@ -1,6 +1,7 @@
 ghost use Rattle.std.specs.Prelude.{◌≡◌, ◌+◌, ◌<◌, ◌≤◌, length, vec_len, IfOk, is_err};
 ghost use Rattle.pg_io.specs.Pager.{page_size, PagerNow, IsRead, IsWrite};
-ghost use Rattle.pg_cache.specs.Held.{Held, clean, patched, dirtied};
+ghost use Rattle.pg_io.specs.MemPages.{written_over};
+ghost use Rattle.pg_cache.specs.Held.{Held, clean, dirtied};
 
 use crate::NoMemory;
 use pg_io::{Failed, PAGE_SIZE, Pager};
@@ -104,7 +105,7 @@ fn zeros(alloc: Global) -> Result<Vec<u8>, NoMemory>
 // Writes bytes over others at a place.
 fn put_at(bytes: &mut [u8], at: usize, from: &[u8])
     requires { at + length from.now ≤ length bytes.old }
-    ensures { bytes.new ≡ patched bytes.old at from.now }
+    ensures { bytes.new ≡ written_over bytes.old at from.now }
 {
     bytes[at..at + from.len()].copy_from_slice(from);
 }

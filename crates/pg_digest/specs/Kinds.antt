@@ -1,5 +1,5 @@
 -- The hash types of a code directory, as XNU's `cs_blobs.h` numbers and sizes them (CS_HASHTYPE_*).
-use Rattle.std.specs.Prelude.{ℕ, ◌==◌, Option, Some, None, if◌then◌else◌}
+use Rattle.std.specs.Prelude.{ℕ, List, ◌==◌, Option, Some, None, if◌then◌else◌}
 use Rattle.pg_digest.specs.declared.kinds.HashKind.{HashKind}
 use Rattle.pg_digest.specs.declared.kinds.HashKind.TheVariants.{Sha1, Sha256, Sha256Short, Sha384}
 
@@ -18,6 +18,10 @@ kind_numbered number =
     else if number == 3 then Some Sha256Short
     else if number == 4 then Some Sha384
     else None
+
+-- the digest of a message by a hash type
+abbrev pub Hash : Type 0
+Hash = HashKind → List ℕ → List ℕ
 
 -- how many bytes a digest has
 abbrev pub size_of : HashKind → ℕ

@@ -4,8 +4,8 @@ use Rattle.cs_blob.proofs.PartsFacts.{All-find}
 use Rattle.cs_blob.proofs.DigestFacts.{special_blobs-none, special_blobs-some}
 use Rattle.cs_blob.proofs.checks.special.Goals as goal
 
-pub part-requires : goal.part-requires
-part-requires g c = All-find (λ seat. IsWithin c.args.bytes.now seat.range) (λ seat. seat.slot == c.args.slot) c.args.entries.now c.in-Some.seat c.requires.within (sym c.in-Some.ensures)
+pub bytes_in-requires : goal.bytes_in-requires
+bytes_in-requires g c = record { within = (All-find (λ seat. IsWithin c.args.bytes.now seat.range) (λ seat. seat.slot == c.args.slot) c.args.entries.now c.in-Some.seat c.requires.within (sym c.in-Some.ensures)).within }
 
 pub returns-in_default-clause-digests : goal.returns-in_default-clause-digests
 returns-in_default-clause-digests g c =

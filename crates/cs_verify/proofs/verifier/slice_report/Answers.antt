@@ -8,7 +8,7 @@ use Rattle.cs_verify.proofs.verifier.slice_report.Goals as goal
 pub returns-in-Ok : goal.returns-in-Ok
 returns-in-Ok g c =
     IfOk-weaker c.image_report.result _ _
-    (λ said is. is ∙ said_of_image g.D.Digester.hash c.args.bytes.now c.args.slice.now c.in-Ok.image c.part.result.now c.in-Ok.ensures.accepted c.part.ensures.bytes)
+    (λ said is. is ∙ said_of_image g.D.Digester.hash c.args.bytes.now c.args.slice.now c.in-Ok.image c.bytes_in.result.now c.in-Ok.ensures.accepted c.bytes_in.ensures.bytes)
     c.image_report.ensures
 
 pub returns-in-Err-Refused : goal.returns-in-Err-Refused

@@ -1,7 +1,8 @@
 use Rattle.std.proofs.Common.{◌≡◌, ◌∙◌, ◌<◌, List, false, refl, ap, sym, subst}
 use Rattle.std.specs.Prelude.{option_map, slice_set}
 use Rattle.pg_io.specs.Pager.{IsWrite}
-use Rattle.pg_cache.specs.Held.{Held, clean, changed, dirtied, cleaned, patched}
+use Rattle.pg_io.specs.MemPages.{written_over}
+use Rattle.pg_cache.specs.Held.{Held, clean, changed, dirtied, cleaned}
 use Rattle.pg_cache.specs.Cache.{CacheNow}
 use Rattle.pg_cache.specs.Place.{IsAt}
 use Rattle.pg_cache.proofs.StepFacts.{unwritten_sound, written_sound, with_held, write_as, write_to}
@@ -44,8 +45,8 @@ returns-clause-contents g c =
     let piece = c.args.bytes.now in
     let number = ap (λ (h : Held). h.page) (c.put.ensures ∙ ap (dirtied c.args.at piece) c.copy.ensures) in
     let old = ap (λ (h : Held). h.bytes) c.copy.ensures ∙ c.bytes.ensures.bytes ∙ ap (λ (h : Held). h.bytes) (c.index.ensures ∙ at.there _) in
-    let whole = patched at.entry.bytes c.args.at piece in
-    let made : c.put.new.self.bytes ≡ whole = ap (λ (h : Held). h.bytes) c.put.ensures ∙ ap (λ b. patched b c.args.at piece) old in
+    let whole = written_over at.entry.bytes c.args.at piece in
+    let made : c.put.new.self.bytes ≡ whole = ap (λ (h : Held). h.bytes) c.put.ensures ∙ ap (λ b. written_over b c.args.at piece) old in
     let entry : c.copy-2.new.self ≡ cleaned whole at.entry = c.copy-2.ensures ∙ ap (clean c.args.page) (c.bytes-2.ensures.bytes ∙ made) ∙ ap (λ p. clean p whole) (sym at.numbered) in
     let items = ap (slice_set c.self.inside.held.items c.args.place) entry ∙ at.set (cleaned whole) in
     let pager = g.P.Pager.shows c.self.inside.pager in

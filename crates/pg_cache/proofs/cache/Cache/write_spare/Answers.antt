@@ -1,7 +1,8 @@
 use Rattle.std.proofs.Common.{◌≡◌, ◌∙◌, ℕ, List, false, Some, None, refl, ap, sym, subst}
 use Rattle.std.specs.Prelude.{IfSome, IsSome, if◌then◌else◌}
 use Rattle.pg_io.specs.Pager.{IsWrite}
-use Rattle.pg_cache.specs.Held.{Held, find_held, patched}
+use Rattle.pg_io.specs.MemPages.{written_over}
+use Rattle.pg_cache.specs.Held.{Held, find_held}
 use Rattle.pg_cache.specs.Cache.{CacheNow, in_spare}
 use Rattle.pg_cache.proofs.StepFacts.{through_sound, unwritten_sound, write_as, spare_is, write_to, through_spare}
 use Rattle.pg_cache.proofs.ContentsFacts.{now_of, spare_told, spare_was, now-written_absent}
@@ -40,7 +41,7 @@ returns-clause-writes g c =
     let s = c.self.inside.spare in
     let stands = spare_is c.self.inside.has_spare s c.args.page (subst (λ (v : CacheNow). IsSome (in_spare v c.args.page)) (sym c.self.view_is) c.requires.there) in
     let number = ap (λ (h : Held). h.page) c.put.ensures ∙ stands.1 in
-    let bytes : c.put.new.self.bytes ≡ patched s.bytes c.args.at c.args.bytes.now = ap (λ (h : Held). h.bytes) c.put.ensures in
+    let bytes : c.put.new.self.bytes ≡ written_over s.bytes c.args.at c.args.bytes.now = ap (λ (h : Held). h.bytes) c.put.ensures in
     let write = subst (λ (b : List ℕ). IsWrite (g.P.Pager.shows c.self.inside.pager) c.args.page false b (g.P.Pager.shows c.write.new.pager)) bytes (write_to _ _ c.args.page _ false _ _ number done c.write.ensures) in
     through_spare c.self.inside.has_spare s _ _ _ c.args.page false c.args.at c.args.bytes.now c.self.view_is refl stands.0 absent write refl
 
@@ -52,11 +53,11 @@ returns-clause-contents g c =
     let piece = c.args.bytes.now in
     let stands = spare_is c.self.inside.has_spare s c.args.page (subst (λ (v : CacheNow). IsSome (in_spare v c.args.page)) (sym c.self.view_is) c.requires.there) in
     let number = ap (λ (h : Held). h.page) c.put.ensures ∙ stands.1 in
-    let bytes : c.put.new.self.bytes ≡ patched s.bytes c.args.at piece = ap (λ (h : Held). h.bytes) c.put.ensures in
+    let bytes : c.put.new.self.bytes ≡ written_over s.bytes c.args.at piece = ap (λ (h : Held). h.bytes) c.put.ensures in
     let pager = g.P.Pager.shows c.self.inside.pager in
     let now = g.P.Pager.shows c.write.new.pager in
     let write = subst (λ (b : List ℕ). IsWrite pager c.args.page false b now) bytes (write_to pager _ c.args.page _ false _ now number done c.write.ensures) in
     let b = subst (λ has. IfSome (if has then Some s else None) (IsBeside pager.pages pager.told c.self.inside.held.items)) stands.0 c.self.invariant.sound.beside in
     ap (now_of c.self.inside.held.items) write.told
-    ∙ now-written_absent c.self.inside.held.items pager.told c.args.page c.args.at piece (patched s.bytes c.args.at piece) absent (spare_was pager.told c.args.page c.args.at piece s (spare_told pager.pages pager.told c.args.page s b.kept b.is_clean stands.1))
+    ∙ now-written_absent c.self.inside.held.items pager.told c.args.page c.args.at piece (written_over s.bytes c.args.at piece) absent (spare_was pager.told c.args.page c.args.at piece s (spare_told pager.pages pager.told c.args.page s b.kept b.is_clean stands.1))
     ∙ ap (λ (v : CacheNow). option_map (with_piece c.args.page c.args.at piece) (contents v)) c.self.view_is

@@ -1,0 +1,7 @@
+pub mod ListFacts
+pub mod PairFacts
+pub mod FoundFacts
+pub mod StandFacts
+pub mod SoundFacts
+pub mod DropFacts
+pub mod WriterFacts

@@ -1,0 +1,18 @@
+use Rattle.std.proofs.Common.{subst, rules}
+use Rattle.pg_regions.specs.RegionsNow.{IsSound}
+use Rattle.pg_regions.proofs.FoundFacts.{added_found}
+use Rattle.pg_regions.proofs.SoundFacts.{with_region_sound, sound_by}
+use Rattle.pg_regions.proofs.regions.Regions.add.Goals as goal
+
+pub invariant_of-self : goal.invariant_of-self
+invariant_of-self c =
+    let was = subst IsSound c.self.view_is c.self.invariant in
+    sound_by _ _ (search rules) (with_region_sound c.args.self.now c.args.region was c.requires.room c.requires.absent)
+
+pub returns-clause-sound : goal.returns-clause-sound
+returns-clause-sound c =
+    let was = subst IsSound c.self.view_is c.self.invariant in
+    sound_by _ _ (search rules) (with_region_sound c.args.self.now c.args.region was c.requires.room c.requires.absent)
+
+pub returns-clause-found : goal.returns-clause-found
+returns-clause-found c = added_found c.args.region c.args.self.now _ (search rules) c.requires.absent

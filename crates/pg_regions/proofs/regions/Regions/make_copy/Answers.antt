@@ -1,0 +1,24 @@
+use Rattle.std.proofs.Common.{subst, rules}
+use Rattle.pg_regions.specs.RegionsNow.{IsSound}
+use Rattle.pg_regions.specs.Steps.{private_copy}
+use Rattle.pg_regions.proofs.FoundFacts.{made_found}
+use Rattle.pg_regions.proofs.SoundFacts.{with_copy_sound, sound_by}
+use Rattle.pg_regions.proofs.regions.Regions.make_copy.Goals as goal
+
+pub invariant_of-self : goal.invariant_of-self
+invariant_of-self c =
+    let was = subst IsSound c.self.view_is c.self.invariant in
+    sound_by _ _ (search rules)
+    (with_copy_sound c.args.self.now (private_copy c.args.id c.args.page c.args.bytes.now) was
+    c.requires.room c.requires.absent c.requires.stands c.requires.whole)
+
+pub returns-clause-sound : goal.returns-clause-sound
+returns-clause-sound c =
+    let was = subst IsSound c.self.view_is c.self.invariant in
+    sound_by _ _ (search rules)
+    (with_copy_sound c.args.self.now (private_copy c.args.id c.args.page c.args.bytes.now) was
+    c.requires.room c.requires.absent c.requires.stands c.requires.whole)
+
+pub returns-clause-found : goal.returns-clause-found
+returns-clause-found c =
+    made_found c.args.id c.args.page c.args.bytes.now c.args.self.now _ (search rules) c.requires.absent
