@@ -9,7 +9,7 @@ use Rattle.cs_policy.specs.declared.region.Region.{Region}
 use Rattle.cs_policy.specs.declared.region.Record.{Record}
 use Rattle.pg_regions.specs.Lookups.{Copy, is_region, region_of, is_record, record_of, is_copy, copy_of, is_of_pid}
 use Rattle.pg_regions.specs.RegionsNow.{RegionsNow}
-use Rattle.pg_regions.specs.Steps.{ChangesRegion, ChangesRecord, ChangesCopy, with_region, without_region, without_pid, AreGone, blank, given, given_at, IsOneMore, IsGranted, granted, without_execute, goes_with, private_copy, with_copy, with_piece, put_at, with_bytes, rewritten}
+use Rattle.pg_regions.specs.Steps.{ChangesRegion, ChangesRecord, ChangesCopy, with_region, without_region, without_pid, AreGone, blank, given, given_at, IsOneMore, IsGranted, granted, without_execute, is_without_copy, private_copy, with_copy, copy_with_piece, put_at, with_bytes, rewritten}
 use Rattle.pg_regions.proofs.ListFacts.{all_map, find-filter, find-filter_key, find-map, find-append, find-insert, find-insert_other, none_passes, found_passes}
 use Rattle.pg_regions.proofs.PairFacts.{found_only}
 
@@ -187,9 +187,9 @@ record_of-granted id page access guarded old new is i p = by_found (record_of ol
         ∙ ap (λ (o : Option Record). if i == id && p == page then Some (given access guarded (unwrap_or o (blank id page))) else record_of old i p) (sym found)
 
 pub record_of-unmapped : (records : List Record) (copies : List Copy) (page i p : ℕ)
-    → record_of (filter (λ r. not (goes_with copies page r)) records) i p ≡ (if p == page && not (is_some (copy_of copies i page)) then None else record_of records i p)
+    → record_of (filter (λ r. not (is_without_copy copies page r)) records) i p ≡ (if p == page && not (is_some (copy_of copies i page)) then None else record_of records i p)
 record_of-unmapped records copies page i p =
-    find-filter_key (is_record i p) (λ (r : Record). not (goes_with copies page r)) (p == page && not (is_some (copy_of copies i page)))
+    find-filter_key (is_record i p) (λ (r : Record). not (is_without_copy copies page r)) (p == page && not (is_some (copy_of copies i page)))
     (λ r one. let region : r.region ≡ i = grind (arith, common_steps, one) in let number : r.page ≡ p = grind (arith, common_steps, one) in rw (region, number) refl) records
 
 -- ---- private copies
@@ -199,11 +199,11 @@ pub copy_of-push : (copies : List Copy) (copy : Copy) (id page : ℕ) → copy_o
 copy_of-push copies copy id page none = grind (arith, common_steps, find-append (is_copy id page) copies (copy ∷ []), none)
 
 put_key : (copies : List Copy) (id page at : ℕ) (bytes : List ℕ) (i p : ℕ)
-    → option_map (put_at id page at bytes) (copy_of copies i p) ≡ (if i == id && p == page then option_map (with_piece at bytes) (copy_of copies id page) else copy_of copies i p)
+    → option_map (put_at id page at bytes) (copy_of copies i p) ≡ (if i == id && p == page then option_map (copy_with_piece at bytes) (copy_of copies id page) else copy_of copies i p)
 put_key copies id page at bytes i p = by_key (i == id && p == page) refl (copy_of copies i p) refl
   where
     by_key : (b : Bool) → (i == id && p == page) ≡ b → (o : Option Copy) → copy_of copies i p ≡ o
-        → option_map (put_at id page at bytes) (copy_of copies i p) ≡ (if i == id && p == page then option_map (with_piece at bytes) (copy_of copies id page) else copy_of copies i p)
+        → option_map (put_at id page at bytes) (copy_of copies i p) ≡ (if i == id && p == page then option_map (copy_with_piece at bytes) (copy_of copies id page) else copy_of copies i p)
     by_key true e None found =
         let region : i ≡ id = grind (arith, common_steps, e) in
         let number : p ≡ page = grind (arith, common_steps, e) in
@@ -221,7 +221,7 @@ put_key copies id page at bytes i p = by_key (i == id && p == page) refl (copy_o
         grind (arith, common_steps, found, one, e)
 
 pub copy_of-put : (copies : List Copy) (id page at : ℕ) (bytes : List ℕ) (i p : ℕ)
-    → copy_of (map (put_at id page at bytes) copies) i p ≡ (if i == id && p == page then option_map (with_piece at bytes) (copy_of copies id page) else copy_of copies i p)
+    → copy_of (map (put_at id page at bytes) copies) i p ≡ (if i == id && p == page then option_map (copy_with_piece at bytes) (copy_of copies id page) else copy_of copies i p)
 copy_of-put copies id page at bytes i p =
     find-map (is_copy i p) (put_at id page at bytes) (λ copy. grind (arith, common_steps)) copies ∙ put_key copies id page at bytes i p
 
@@ -252,7 +252,7 @@ stripped_found page old new same i p =
     ap (λ (l : List Record). record_of l i p) same ∙ record_of-map (without_execute page) (stripped_keeps page) old i p
 
 pub unmapped_found : (page : ℕ) (copies : List Copy) (old new : List Record)
-    → new ≡ filter (λ r. not (goes_with copies page r)) old → (i p : ℕ)
+    → new ≡ filter (λ r. not (is_without_copy copies page r)) old → (i p : ℕ)
     → record_of new i p ≡ (if p == page && not (is_some (copy_of copies i page)) then None else record_of old i p)
 unmapped_found page copies old new same i p =
     ap (λ (l : List Record). record_of l i p) same ∙ record_of-unmapped old copies page i p

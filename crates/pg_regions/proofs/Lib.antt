@@ -5,3 +5,4 @@ pub mod StandFacts
 pub mod SoundFacts
 pub mod DropFacts
 pub mod WriterFacts
+pub mod Laws

@@ -14,8 +14,8 @@ use Rattle.pg_io.specs.Pager.{page_size}
 use Rattle.pg_io.specs.MemPagesLaws.{length-over}
 use Rattle.pg_regions.specs.Lookups.{Copy, is_region, region_of, is_record, record_of, is_copy, copy_of, bytes_of, is_of_pid, HasPage, HasPrivatePage}
 use Rattle.pg_regions.specs.RegionsNow.{RegionsNow, spare, IsSound}
-use Rattle.pg_regions.specs.Steps.{with_region, without_region, without_pid, KeepsRoom, blank, given, given_at, IsOneMore, IsGranted, without_execute, stripped, goes_with, unmapped, with_copy, put_at, with_bytes}
-use Rattle.pg_regions.proofs.ListFacts.{length_filter, filter_all, all_map, found_has, none_passes, All-mapped, All-inserted}
+use Rattle.pg_regions.specs.Steps.{with_region, without_region, without_pid, IsFresh, KeepsRoom, blank, given, given_at, IsOneMore, IsGranted, without_execute, stripped, is_without_copy, unmapped, with_copy, put_at, with_bytes}
+use Rattle.pg_regions.proofs.ListFacts.{length_filter, filter_all, all_map, found_passes, found_has, none_passes, All-mapped, All-inserted}
 use Rattle.pg_regions.proofs.PairFacts.{pairs_map, pairs_insert, pairs_push}
 use Rattle.pg_regions.proofs.FoundFacts.{KeepsKeys, is_record-kept, region_swap, record_swap, copy_swap, region_of-without, region_of-without_pid, given_keeps, given_region, given_page, stripped_keeps}
 use Rattle.pg_regions.proofs.StandFacts.{Stands, StandsPrivate, Page, PrivatePage, other_number, records_pushed, copies_pushed, records_left, copies_left}
@@ -125,6 +125,38 @@ without_absent now id sound none =
         (λ copy has. ap not (other_number (PrivatePage copy.page) now.regions id copy.region none has))
         (recursion_from_All (StandsPrivate now.regions) now.copies sound.copies_stand))
 
+-- a region that does not stand has no record and no copy
+absent_fresh : (now : RegionsNow) (id : ℕ) → IsSound now → region_of now.regions id ≡ None → IsFresh now id
+absent_fresh now id sound none = record {
+  no_record = λ page. record_none page (record_of now.records id page) refl;
+  no_copy = λ page. copy_none page (copy_of now.copies id page) refl;
+}
+  where
+    record_none : (page : ℕ) (o : Option Record) → record_of now.records id page ≡ o → record_of now.records id page ≡ None
+    record_none page None e = e
+    record_none page (Some r) e =
+        let stand = recursion_from_All (Stands now.regions) now.records sound.records_stand in
+        let has : Stands now.regions r = found_has (Stands now.regions) (is_record id page) now.records r stand e in
+        let one = found_passes (is_record id page) now.records r e in
+        let other = other_number (Page r.page) now.regions id r.region none has in
+        absurd (grind (arith, common_steps, one, other))
+
+    copy_none : (page : ℕ) (o : Option Copy) → copy_of now.copies id page ≡ o → copy_of now.copies id page ≡ None
+    copy_none page None e = e
+    copy_none page (Some copy) e =
+        let stand = recursion_from_All (StandsPrivate now.regions) now.copies sound.copies_stand in
+        let has : StandsPrivate now.regions copy = found_has (StandsPrivate now.regions) (is_copy id page) now.copies copy stand e in
+        let one = found_passes (is_copy id page) now.copies copy e in
+        let other = other_number (PrivatePage copy.page) now.regions id copy.region none has in
+        absurd (grind (arith, common_steps, one, other))
+
+pub with_region_fresh : (now new : RegionsNow) (region : Region) → new ≡ with_region region now → IsSound now
+    → region_of now.regions region.id ≡ None → IsFresh new region.id
+with_region_fresh now new region same sound none =
+    let before = absent_fresh now region.id sound none in
+    subst (λ after. IsFresh after region.id) (sym same)
+    (record { no_record = before.no_record; no_copy = before.no_copy })
+
 -- ---- records
 
 -- each record is changed, and whose it is stays
@@ -189,13 +221,13 @@ stripped_sound now page sound = records_map_sound now (without_execute page) (st
 pub unmapped_sound : (now : RegionsNow) (page : ℕ) → IsSound now → IsSound (unmapped page now)
 unmapped_sound now page sound = record {
   one_region = sound.one_region;
-  one_record = AllPairs-filter OneRecord (λ r. not (goes_with now.copies page r)) now.records sound.one_record;
+  one_record = AllPairs-filter OneRecord (λ r. not (is_without_copy now.copies page r)) now.records sound.one_record;
   one_copy = sound.one_copy;
-  records_stand = All-filter (λ r. not (goes_with now.copies page r)) (Stands now.regions) now.records sound.records_stand;
+  records_stand = All-filter (λ r. not (is_without_copy now.copies page r)) (Stands now.regions) now.records sound.records_stand;
   copies_stand = sound.copies_stand;
   whole = sound.whole;
   few_regions = sound.few_regions;
-  few_records = omega (arith, sound.few_records, length_filter (λ (r : Record). not (goes_with now.copies page r)) now.records);
+  few_records = omega (arith, sound.few_records, length_filter (λ (r : Record). not (is_without_copy now.copies page r)) now.records);
   few_copies = sound.few_copies;
   countable = sound.countable;
 }
@@ -203,7 +235,7 @@ unmapped_sound now page sound = record {
 pub unmapped_room : (now : RegionsNow) (page : ℕ) → KeepsRoom now (unmapped page now)
 unmapped_room now page = record {
   regions = omega arith;
-  records = omega (arith, length_filter (λ (r : Record). not (goes_with now.copies page r)) now.records);
+  records = omega (arith, length_filter (λ (r : Record). not (is_without_copy now.copies page r)) now.records);
   copies = omega arith;
 }
 

@@ -39,7 +39,7 @@ other_number P regions id i none has = by_number (i == id) refl
 
 -- ---- what is found as before is said of as before
 
-found_again : (P : Region → Type 0) (old new : List Region) (i : ℕ) → region_of new i ≡ region_of old i
+pub found_again : (P : Region → Type 0) (old new : List Region) (i : ℕ) → region_of new i ≡ region_of old i
     → IsSomeAnd (region_of old i) P → IsSomeAnd (region_of new i) P
 found_again P old new i same has = subst (λ o. IsSomeAnd o P) (sym same) has
 

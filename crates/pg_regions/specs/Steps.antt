@@ -25,6 +25,11 @@ pub record ChangesCopy (old new : RegionsNow) (id page : ℕ) (found : Option Co
   pub here : copy_of new.copies id page ≡ found
   pub others : (i p : ℕ) → (i == id && p == page) ≡ false → copy_of new.copies i p ≡ copy_of old.copies i p
 
+-- the region has no record and no copy, on any page
+pub record IsFresh (now : RegionsNow) (id : ℕ) : Type 0 where
+  pub no_record : (page : ℕ) → record_of now.records id page ≡ None
+  pub no_copy : (page : ℕ) → copy_of now.copies id page ≡ None
+
 -- ---- room
 
 abbrev pub one_region_less : Room → Room
@@ -64,7 +69,7 @@ without_pid pid now = record now {
   copies = filter (λ copy. not (is_of_pid now.regions pid copy.region)) now.copies;
 }
 
--- Of the regions that `gone` tells nothing is found, and of all others what was found before.
+-- Nothing is found of a region that is gone, and of all others what was found before.
 pub record AreGone (gone : ℕ → Bool) (old new : RegionsNow) : Type 0 where
   pub regions : (id : ℕ) → region_of new.regions id ≡ (if gone id then None else region_of old.regions id)
   pub records : (id page : ℕ) → record_of new.records id page ≡ (if gone id then None else record_of old.records id page)
@@ -124,12 +129,12 @@ FindsStripped old new page =
     (i p : ℕ) → record_of new.records i p ≡ option_map (without_execute page) (record_of old.records i p)
 
 -- the record is of the page, and its region has no private copy of it
-abbrev pub goes_with : List Copy → ℕ → Record → Bool
-goes_with copies page r = (r.page == page) && not (is_some (copy_of copies r.region page))
+abbrev pub is_without_copy : List Copy → ℕ → Record → Bool
+is_without_copy copies page r = (r.page == page) && not (is_some (copy_of copies r.region page))
 
 -- Unmap: these records go.
 abbrev pub unmapped : ℕ → RegionsNow → RegionsNow
-unmapped page now = record now { records = filter (λ r. not (goes_with now.copies page r)) now.records }
+unmapped page now = record now { records = filter (λ r. not (is_without_copy now.copies page r)) now.records }
 
 -- none of these is found then, and of all others what was found before
 abbrev pub FindsUnmapped : RegionsNow → RegionsNow → ℕ → Type 0
@@ -148,12 +153,12 @@ abbrev pub with_copy : Copy → RegionsNow → RegionsNow
 with_copy copy now = record now { copies = now.copies ++ copy ∷ [] }
 
 -- a copy with bytes written over a part of it
-abbrev pub with_piece : ℕ → List ℕ → Copy → Copy
-with_piece at bytes copy = record copy { bytes = written_over copy.bytes at bytes }
+abbrev pub copy_with_piece : ℕ → List ℕ → Copy → Copy
+copy_with_piece at bytes copy = record copy { bytes = written_over copy.bytes at bytes }
 
 -- the same, where it is the copy of the region and page
 abbrev pub put_at : ℕ → ℕ → ℕ → List ℕ → Copy → Copy
-put_at id page at bytes copy = if is_copy id page copy then with_piece at bytes copy else copy
+put_at id page at bytes copy = if is_copy id page copy then copy_with_piece at bytes copy else copy
 
 -- Put: the bytes are written over a part of the copy of the region and page.
 abbrev pub with_bytes : ℕ → ℕ → ℕ → List ℕ → RegionsNow → RegionsNow
@@ -161,4 +166,4 @@ with_bytes id page at bytes now = record now { copies = map (put_at id page at b
 
 -- the copy of the region and page after it
 abbrev pub rewritten : ℕ → ℕ → ℕ → List ℕ → RegionsNow → Option Copy
-rewritten id page at bytes old = option_map (with_piece at bytes) (copy_of old.copies id page)
+rewritten id page at bytes old = option_map (copy_with_piece at bytes) (copy_of old.copies id page)

@@ -4,7 +4,7 @@ ghost use Rattle.std.specs.Prelude.{◌≡◌, ◌==◌, ◌+◌, ◌<◌, ◌�
 ghost use Rattle.pg_io.specs.Pager.{page_size};
 ghost use Rattle.pg_io.specs.MemPages.{written_over};
 ghost use Rattle.pg_regions.specs.Lookups.{Copy, is_copy, CopiesDiffer, copy_of, bytes_of};
-ghost use Rattle.pg_regions.specs.Steps.{private_copy, with_piece, put_at};
+ghost use Rattle.pg_regions.specs.Steps.{private_copy, copy_with_piece, put_at};
 
 use crate::NoMemory;
 use pg_io::PAGE_SIZE;
@@ -72,7 +72,7 @@ impl Buffer {
     // Writes bytes over a part of the page.
     fn put(&mut self, at: u32, bytes: &[u8])
         requires { at + length bytes.now ≤ page_size }
-        ensures { self.new ≡ with_piece at bytes.now self.old }
+        ensures { self.new ≡ copy_with_piece at bytes.now self.old }
     {
         put_bytes(&mut self.bytes, at as usize, bytes);
     }

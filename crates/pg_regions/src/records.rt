@@ -2,7 +2,7 @@
 
 ghost use Rattle.std.specs.Prelude.{◌≡◌, ◌==◌, ◌&&◌, ◌<◌, not, map, filter, position, option_copied, vec_len, vec_capacity};
 ghost use Rattle.pg_regions.specs.Lookups.{is_record, RecordsDiffer, record_of, writer_of};
-ghost use Rattle.pg_regions.specs.Steps.{blank, given, IsGranted, without_execute, goes_with};
+ghost use Rattle.pg_regions.specs.Steps.{blank, given, IsGranted, without_execute, is_without_copy};
 
 use crate::copies::Copies;
 use crate::standing::is_shared;
@@ -96,7 +96,7 @@ pub(crate) fn drop_of(records: &mut Vec<Record>, id: u32)
 
 // Drops the records of a page whose region has no private copy of it.
 pub(crate) fn drop_page(records: &mut Vec<Record>, copies: &Copies, page: u64)
-    ensures records { records.new.items ≡ filter (λ r. not (goes_with copies.now.list page r)) records.old.items }
+    ensures records { records.new.items ≡ filter (λ r. not (is_without_copy copies.now.list page r)) records.old.items }
     ensures room { vec_capacity records.new ≡ vec_capacity records.old }
 {
     records.retain(|record| record.page != page || copies.has(record.region, page));

@@ -5,7 +5,7 @@ ghost use Rattle.std.specs.Bool.{OnFalse};
 ghost use Rattle.pg_io.specs.Pager.{page_size};
 ghost use Rattle.pg_regions.specs.Lookups.{RegionsDiffer, region_of, record_of, copy_of, bytes_of, HasPage, HasPrivatePage, is_of_pid, writer_of, IsLeastWriter, HasNoWriter};
 ghost use Rattle.pg_regions.specs.RegionsNow.{empty, spare, IsSound};
-ghost use Rattle.pg_regions.specs.Steps.{ChangesRegion, ChangesRecord, ChangesCopy, one_region_less, one_copy_less, KeepsRoom, with_region, without_region, without_pid, AreGone, IsGranted, granted, spare_granted, stripped, FindsStripped, unmapped, FindsUnmapped, private_copy, with_copy, with_bytes, rewritten};
+ghost use Rattle.pg_regions.specs.Steps.{ChangesRegion, ChangesRecord, ChangesCopy, one_region_less, one_copy_less, KeepsRoom, with_region, without_region, without_pid, AreGone, IsFresh, IsGranted, granted, spare_granted, stripped, FindsStripped, unmapped, FindsUnmapped, private_copy, with_copy, with_bytes, rewritten};
 
 use crate::copies::Copies;
 use crate::{NoMemory, records, standing};
@@ -38,7 +38,8 @@ impl Model for Regions {
 
 impl Regions {
     /// A file that no process has mapped, with room for so many regions, records and private copies of 4,096 bytes.
-    /// All memory that they ever use is taken here: `NoMemory` comes where there is none for them.
+    /// The regions are fewer than 2^32. All memory that they ever use is taken here: `NoMemory` comes where there is
+    /// none for them.
     pub fn open(
         alloc: Global,
         regions: usize,
@@ -47,6 +48,7 @@ impl Regions {
     ) -> Result<Regions, NoMemory>
         requires { regions < 2 ^ 32 }
         ensures opened { IfOk result (λ opened. opened ≡ empty regions records copies) }
+        ensures room { IfOk result (λ opened. spare opened ≡ record { regions = regions; records = records; copies = copies }) }
         ensures sound { IfOk result IsSound }
     {
         Ok(Regions {
@@ -56,12 +58,14 @@ impl Regions {
         })
     }
 
-    /// Adds a region. No other region has its number.
+    /// Adds a region, which has no record and no copy yet. No other region has its number, and room for a region is
+    /// left.
     pub fn add(&mut self, region: Region)
         requires room { 0 < (spare self.old).regions }
         requires absent { region_of self.old.regions region.id ≡ None }
         ensures after { self.new ≡ with_region region self.old }
         ensures found { ChangesRegion self.old self.new region.id (Some region) }
+        ensures fresh { IsFresh self.new region.id }
         ensures room { spare self.new ≡ one_region_less (spare self.old) }
         ensures sound { IsSound self.new }
     {
@@ -118,7 +122,9 @@ impl Regions {
     }
 
     /// Gives a region an access to one of its pages, and reading with it. Write takes from the region the permission
-    /// to execute the page, and Execute keeps `guarded` beside it. What else the region had stays.
+    /// to execute the page, and Execute keeps `guarded` beside it. What else the region had stays. The region stands
+    /// and has the page. A record is made where there is none, and room for one is left, also where the record stands
+    /// already.
     pub fn grant(&mut self, id: u32, page: u64, access: Access, guarded: bool)
         requires stands { HasPage self.old.regions id page }
         requires room { 0 < (spare self.old).records }
@@ -173,7 +179,7 @@ impl Regions {
     }
 
     /// Makes a private copy of a page for a private region that has none of it, with the 4,096 bytes that it begins
-    /// with.
+    /// with. Room for a copy is left.
     pub fn make_copy(&mut self, id: u32, page: u64, bytes: &[u8])
         requires stands { HasPrivatePage self.old.regions id page }
         requires room { 0 < (spare self.old).copies }
@@ -187,7 +193,8 @@ impl Regions {
         self.copies.make(id, page, bytes);
     }
 
-    /// Writes bytes over a part of a private copy, from the byte `at` of the page on. They stay in the page.
+    /// Writes bytes over a part of a region's private copy of a page, from the byte `at` of the page on. The region
+    /// has a copy of the page, and the bytes stay in the page.
     pub fn put_copy(&mut self, id: u32, page: u64, at: u32, bytes: &[u8])
         requires there { IsSome (copy_of self.old.copies id page) }
         requires fits { at + length bytes.now ≤ page_size }

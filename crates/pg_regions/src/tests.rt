@@ -128,50 +128,73 @@ fn letters(record: Option<&Record>) -> [char; 4] {
     }
 }
 
-// What each of the story's calls answers, and what the records of page 5 give then, of the regions 1, 2 and 3.
-const STORY: [(Call, Option<u32>, [[char; 4]; 3]); 26] = [
-    (Call::Add(PRIVATE), None, [NONE, NONE, NONE]),
-    (Call::Add(SHARED), None, [NONE, NONE, NONE]),
-    (Call::Add(OTHER), None, [NONE, NONE, NONE]),
-    (Call::Grant(1, 5, Access::Read, true), None, [R, NONE, NONE]),
+// The regions and pages whose records are shown.
+const SHOWN: [(u32, u64); 4] = [(1, 5), (2, 5), (3, 5), (1, 6)];
+
+// What each of the calls answers, and what the records that are shown give then.
+const CALLS: [(Call, Option<u32>, [[char; 4]; 4]); 26] = [
+    (Call::Add(PRIVATE), None, [NONE, NONE, NONE, NONE]),
+    (Call::Add(SHARED), None, [NONE, NONE, NONE, NONE]),
+    (Call::Add(OTHER), None, [NONE, NONE, NONE, NONE]),
+    (
+        Call::Grant(1, 5, Access::Read, true),
+        None,
+        [R, NONE, NONE, NONE],
+    ),
     (
         Call::Grant(1, 5, Access::Execute, true),
         None,
-        [RXG, NONE, NONE],
+        [RXG, NONE, NONE, NONE],
     ),
     (
         Call::Grant(1, 6, Access::Execute, true),
         None,
-        [RXG, NONE, NONE],
+        [RXG, NONE, NONE, RXG],
     ),
-    (Call::Grant(2, 5, Access::Read, false), None, [RXG, R, NONE]),
-    (Call::Writer(5), None, [RXG, R, NONE]),
-    (Call::Grant(3, 5, Access::Write, true), None, [RXG, R, RW]),
-    (Call::Writer(5), Some(3), [RXG, R, RW]),
-    (Call::Grant(2, 5, Access::Write, false), None, [RXG, RW, RW]),
-    (Call::Writer(5), Some(2), [RXG, RW, RW]),
+    (Call::Writer(5), None, [RXG, NONE, NONE, RXG]),
+    (
+        Call::Grant(3, 5, Access::Write, true),
+        None,
+        [RXG, NONE, RW, RXG],
+    ),
+    (
+        Call::Grant(2, 5, Access::Read, false),
+        None,
+        [RXG, R, RW, RXG],
+    ),
+    (Call::Writer(5), Some(3), [RXG, R, RW, RXG]),
+    (
+        Call::Grant(2, 5, Access::Write, false),
+        None,
+        [RXG, RW, RW, RXG],
+    ),
+    (Call::Writer(5), Some(2), [RXG, RW, RW, RXG]),
     (
         Call::Grant(3, 5, Access::Execute, false),
         None,
-        [RXG, RW, RWX],
+        [RXG, RW, RWX, RXG],
     ),
-    (Call::Strip(5), None, [RG, RW, RW]),
-    (Call::MakeCopy(1, 5), None, [RG, RW, RW]),
+    (Call::Strip(5), None, [RG, RW, RW, RXG]),
+    (Call::MakeCopy(1, 5), None, [RG, RW, RW, RXG]),
     (
         Call::Grant(1, 5, Access::Execute, true),
         None,
-        [RXG, RW, RW],
+        [RXG, RW, RW, RXG],
     ),
-    (Call::Grant(1, 5, Access::Write, false), None, [RWG, RW, RW]),
-    (Call::PutCopy(1, 5, 4095, 9), None, [RWG, RW, RW]),
-    (Call::Writer(5), Some(2), [RWG, RW, RW]),
-    (Call::Unmap(5), None, [RWG, NONE, NONE]),
-    (Call::Writer(5), None, [RWG, NONE, NONE]),
-    (Call::DropRegion(2), Some(1), [RWG, NONE, NONE]),
-    (Call::DropRegion(2), Some(0), [RWG, NONE, NONE]),
-    (Call::Add(LATER), None, [RWG, NONE, NONE]),
-    (Call::DropPid(0), Some(2), [NONE, NONE, NONE]),
-    (Call::DropPid(0), Some(0), [NONE, NONE, NONE]),
+    (
+        Call::Grant(1, 5, Access::Write, false),
+        None,
+        [RWG, RW, RW, RXG],
+    ),
+    (Call::PutCopy(1, 5, 4095, 9), None, [RWG, RW, RW, RXG]),
+    (Call::Writer(5), Some(2), [RWG, RW, RW, RXG]),
+    (Call::Unmap(5), None, [RWG, NONE, NONE, RXG]),
+    (Call::Writer(5), None, [RWG, NONE, NONE, RXG]),
+    (Call::DropRegion(2), Some(1), [RWG, NONE, NONE, RXG]),
+    (Call::DropRegion(2), Some(0), [RWG, NONE, NONE, RXG]),
+    (Call::Add(LATER), None, [RWG, NONE, NONE, RXG]),
+    (Call::DropPid(0), Some(2), [NONE, NONE, NONE, NONE]),
+    (Call::DropPid(0), Some(0), [NONE, NONE, NONE, NONE]),
 ];
 
 const NONE: [char; 4] = ['n', 'o', 'n', 'e'];
@@ -191,11 +214,12 @@ const RXG: [char; 4] = ['r', '-', 'x', 'g'];
 #[test]
 fn two_processes_map_a_file(rt: HostRuntime) -> Result<(), Fail> {
     let mut regions = Regions::open(rt.alloc(), 26, 26, 26)?;
-    for (call, answer, records) in STORY.iter() {
+    for (call, answer, records) in CALLS.iter() {
         assert_eq!(rt; run(&mut regions, *call)?, *answer, "of {call:?}");
-        let shown = [1, 2, 3].map(|id| letters(regions.record(id, 5)));
+        let shown = SHOWN.map(|(id, page)| letters(regions.record(id, page)));
         assert_eq!(rt; shown, *records, "after {call:?}");
     }
+    assert_eq!(rt; regions.find(3), Some(&OTHER));
     Ok(())
 }
 

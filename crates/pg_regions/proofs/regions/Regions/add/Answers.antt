@@ -1,7 +1,7 @@
 use Rattle.std.proofs.Common.{subst, rules}
 use Rattle.pg_regions.specs.RegionsNow.{IsSound}
 use Rattle.pg_regions.proofs.FoundFacts.{added_found}
-use Rattle.pg_regions.proofs.SoundFacts.{with_region_sound, sound_by}
+use Rattle.pg_regions.proofs.SoundFacts.{with_region_sound, with_region_fresh, sound_by}
 use Rattle.pg_regions.proofs.regions.Regions.add.Goals as goal
 
 pub invariant_of-self : goal.invariant_of-self
@@ -16,3 +16,8 @@ returns-clause-sound c =
 
 pub returns-clause-found : goal.returns-clause-found
 returns-clause-found c = added_found c.args.region c.args.self.now _ (search rules) c.requires.absent
+
+pub returns-clause-fresh : goal.returns-clause-fresh
+returns-clause-fresh c =
+    let was = subst IsSound c.self.view_is c.self.invariant in
+    with_region_fresh c.args.self.now _ c.args.region (search rules) was c.requires.absent
