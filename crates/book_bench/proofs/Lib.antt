@@ -1,0 +1,5 @@
+pub mod ListFacts
+pub mod HandFacts
+pub mod OwnPartsFacts
+pub mod RunFacts
+pub mod CountFacts
