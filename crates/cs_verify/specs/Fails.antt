@@ -1,4 +1,4 @@
--- How a file that has no slices is passed on.
+-- How a file that breaks the rules on fat files is passed on.
 use Rattle.std.specs.Prelude.{◌≡◌, Option, Some}
 use Rattle.macho_slices.specs.declared.refusal.FatRefusal.{FatRefusal}
 use Rattle.macho_slices.specs.declared.refusal.FatFail.{FatFail}
@@ -6,7 +6,7 @@ use Rattle.macho_slices.specs.declared.refusal.FatFail.TheVariants as slices
 use Rattle.cs_verify.specs.declared.report.VerifyFail.{VerifyFail}
 use Rattle.cs_verify.specs.declared.report.VerifyFail.TheVariants.{Refused, NoMemory}
 
--- what there are no slices for, there is no report for
+-- a refusal is that of the first rule that the file breaks, and want of memory stays so
 abbrev pub from_slices : FatFail → VerifyFail
 from_slices (slices.Refused refusal) = Refused refusal
 from_slices slices.NoMemory = NoMemory

@@ -43,10 +43,14 @@ abbrev pub extent_text : ℕ → ℕ → List ℕ → List ℕ
 extent_text limit slots ident =
     codes " limit " ++ (decimal limit ++ (codes " slots " ++ (decimal slots ++ (codes " ident " ++ (ident_text ident ++ codes "\n")))))
 
+-- what the line on the code directory of slice `i` begins with
+abbrev pub accepted_text : ℕ → List ℕ
+accepted_text i = slice_text i ++ codes " accepted"
+
 -- what its best code directory says
 abbrev pub accepted_line : ℕ → List ℕ → HashKind → ℕ → ℕ → ℕ → List ℕ → List ℕ
 accepted_line i cdhash kind flags limit slots ident =
-    slice_text i ++ (codes " accepted" ++ (directory_text cdhash kind flags ++ extent_text limit slots ident))
+    accepted_text i ++ (directory_text cdhash kind flags ++ extent_text limit slots ident)
 
 -- two digests that differ
 abbrev pub mismatch_text : List ℕ → List ℕ → List ℕ

@@ -30,7 +30,8 @@ pub fn bad_pages<D: Digester>(
 ) -> Result<Vec<BadPage>, AllocError>
     requires directory { IsDirectory directory_bytes.now directory.now }
     requires limited { directory.now.limit ≤ length image.now }
-    ensures { IfOk result (λ bad. bad.items ≡ bad_pages D.hash directory.now directory_bytes.now image.now) }
+    ensures { IfOk result (λ bad.
+        bad.items ≡ bad_pages D.hash directory.now directory_bytes.now image.now) }
 {
     let signed = &image[..directory.limit() as usize];
     let mut bad = Vec::new(alloc);

@@ -232,7 +232,7 @@ slice 0 pages 2 of 3
         false,
     ),
     (
-        "a second entry past the signature",
+        "an entry at the signature's end",
         8320,
         &[0, 0, 0, 0xd8],
         "slice 0 refused super.5.0.0\n",

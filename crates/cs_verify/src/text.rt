@@ -4,7 +4,7 @@ ghost use Rattle.std.specs.Prelude.{◌≡◌, ◌++◌, ◌≤◌, OnOk, IfOk, 
 ghost use Rattle.std.specs.String.{string_bytes};
 ghost use Rattle.std.specs.List.{flat_map};
 ghost use Rattle.hex.specs.Hex.{encode_lower};
-ghost use Rattle.cs_verify.specs.Text.{word_text, arch_line, ident_text, directory_text, extent_text, accepted_line, mismatch_text, digests_text, page_line, pages_line, slice_lines, refused_line};
+ghost use Rattle.cs_verify.specs.Text.{word_text, arch_line, ident_text, directory_text, extent_text, accepted_text, mismatch_text, digests_text, page_line, pages_line, slice_lines, refused_line};
 ghost use Rattle.cs_verify.specs.Text as texts;
 
 use crate::report::{BadPage, SliceReport};
@@ -14,7 +14,7 @@ use std::alloc::{AllocError, Global};
 
 /// The text of a report, one slice after another. Slice `I`, counted from 0, has the one line
 /// `slice I refused R`, or a line on the image, one on its signature, one for each page that does not match, and
-/// one that counts the pages that do. A file without slices has no text.
+/// one that counts the pages that do. A file without slices has no text. The only error is want of memory.
 pub fn verify_text(alloc: Global, reports: &[SliceReport]) -> Result<Vec<u8>, AllocError>
     ensures { IfOk result (λ text. text.items ≡ texts.verify_text reports.now) }
 {
@@ -46,7 +46,8 @@ fn put_slice(
     i: usize,
     report: &SliceReport,
 ) -> Result<(), AllocError>
-    ensures { OnOk result (string_bytes text.new ≡ string_bytes text.old ++ slice_lines i report.now) }
+    ensures { OnOk result (string_bytes text.new ≡
+        string_bytes text.old ++ slice_lines i report.now) }
 {
     match report {
         SliceReport::Refused(refusal) => put_refused(text, i, *refusal),
@@ -64,17 +65,9 @@ fn put_slice(
             pages,
         } => {
             put_arch(alloc, text, i, *cputype, *cpusubtype, *filetype)?;
-            put_accepted(
-                alloc,
-                text,
-                i,
-                cdhash,
-                *kind,
-                *flags,
-                *limit,
-                *slots,
-                ident.bytes(),
-            )?;
+            put_accepted(text, i)?;
+            put_directory(alloc, text, cdhash, *kind, *flags)?;
+            put_extent(alloc, text, *limit, *slots, ident.bytes())?;
             put_bad(alloc, text, i, bad.items())?;
             put_pages(text, i, bad.items(), *pages)
         }
@@ -83,7 +76,8 @@ fn put_slice(
 
 /// Why slice `i` is refused.
 fn put_refused(text: &mut String, i: usize, refusal: Refusal) -> Result<(), AllocError>
-    ensures { OnOk result (string_bytes text.new ≡ string_bytes text.old ++ refused_line i refusal) }
+    ensures { OnOk result (string_bytes text.new ≡
+        string_bytes text.old ++ refused_line i refusal) }
 {
     write!(text, "slice {i} refused {refusal}\n")
 }
@@ -97,7 +91,8 @@ fn put_arch(
     cpusubtype: u32,
     filetype: u32,
 ) -> Result<(), AllocError>
-    ensures { OnOk result (string_bytes text.new ≡ string_bytes text.old ++ arch_line i cputype cpusubtype filetype) }
+    ensures { OnOk result (string_bytes text.new ≡
+        string_bytes text.old ++ arch_line i cputype cpusubtype filetype) }
 {
     let cputype = word_digits(alloc, cputype)?;
     let cpusubtype = word_digits(alloc, cpusubtype)?;
@@ -117,23 +112,11 @@ fn ident_digits(alloc: Global, ident: &[u8]) -> Result<String, AllocError>
     hex_digits(alloc, ident)
 }
 
-/// What the code directory of slice `i` says.
-fn put_accepted(
-    alloc: Global,
-    text: &mut String,
-    i: usize,
-    cdhash: &[u8; 20],
-    kind: HashKind,
-    flags: u32,
-    limit: u64,
-    slots: u64,
-    ident: &[u8],
-) -> Result<(), AllocError>
-    ensures { OnOk result (string_bytes text.new ≡ string_bytes text.old ++ accepted_line i cdhash.now kind flags limit slots ident.now) }
+/// What the line on the code directory of slice `i` begins with.
+fn put_accepted(text: &mut String, i: usize) -> Result<(), AllocError>
+    ensures { OnOk result (string_bytes text.new ≡ string_bytes text.old ++ accepted_text i) }
 {
-    write!(text, "slice {i} accepted")?;
-    put_directory(alloc, text, cdhash, kind, flags)?;
-    put_extent(alloc, text, limit, slots, ident)
+    write!(text, "slice {i} accepted")
 }
 
 /// By what the code directory is known, and what it says of the program.
@@ -144,7 +127,8 @@ fn put_directory(
     kind: HashKind,
     flags: u32,
 ) -> Result<(), AllocError>
-    ensures { OnOk result (string_bytes text.new ≡ string_bytes text.old ++ directory_text cdhash.now kind flags) }
+    ensures { OnOk result (string_bytes text.new ≡
+        string_bytes text.old ++ directory_text cdhash.now kind flags) }
 {
     let cdhash = hex_digits(alloc, cdhash.as_slice())?;
     let kind = number(kind);
@@ -160,7 +144,8 @@ fn put_extent(
     slots: u64,
     ident: &[u8],
 ) -> Result<(), AllocError>
-    ensures { OnOk result (string_bytes text.new ≡ string_bytes text.old ++ extent_text limit slots ident.now) }
+    ensures { OnOk result (string_bytes text.new ≡
+        string_bytes text.old ++ extent_text limit slots ident.now) }
 {
     let ident = ident_digits(alloc, ident)?;
     write!(text, " limit {limit} slots {slots} ident {ident}\n")
@@ -168,7 +153,8 @@ fn put_extent(
 
 /// The pages of slice `i` that do not match.
 fn put_bad(alloc: Global, text: &mut String, i: usize, bad: &[BadPage]) -> Result<(), AllocError>
-    ensures { OnOk result (string_bytes text.new ≡ string_bytes text.old ++ flat_map (page_line i) bad.now) }
+    ensures { OnOk result (string_bytes text.new ≡
+        string_bytes text.old ++ flat_map (page_line i) bad.now) }
 {
     for page in bad {
         put_page(alloc, text, i, page)?;
@@ -176,7 +162,7 @@ fn put_bad(alloc: Global, text: &mut String, i: usize, bad: &[BadPage]) -> Resul
     Ok(())
 }
 
-/// One of them.
+/// Page `bad.page` of slice `i`, which does not match or has no slot.
 fn put_page(alloc: Global, text: &mut String, i: usize, bad: &BadPage) -> Result<(), AllocError>
     ensures { OnOk result (string_bytes text.new ≡ string_bytes text.old ++ page_line i bad.now) }
 {
@@ -192,7 +178,8 @@ fn put_digests(
     found: &Option<Digest>,
     wanted: &Option<Digest>,
 ) -> Result<(), AllocError>
-    ensures { OnOk result (string_bytes text.new ≡ string_bytes text.old ++ digests_text found.now wanted.now) }
+    ensures { OnOk result (string_bytes text.new ≡
+        string_bytes text.old ++ digests_text found.now wanted.now) }
 {
     match (found, wanted) {
         (Some(found), Some(wanted)) => {
@@ -210,7 +197,8 @@ fn put_mismatch(
     found: &[u8],
     wanted: &[u8],
 ) -> Result<(), AllocError>
-    ensures { OnOk result (string_bytes text.new ≡ string_bytes text.old ++ mismatch_text found.now wanted.now) }
+    ensures { OnOk result (string_bytes text.new ≡
+        string_bytes text.old ++ mismatch_text found.now wanted.now) }
 {
     let found = hex_digits(alloc, found)?;
     let wanted = hex_digits(alloc, wanted)?;
@@ -219,7 +207,8 @@ fn put_mismatch(
 
 /// How many pages of slice `i` match.
 fn put_pages(text: &mut String, i: usize, bad: &[BadPage], pages: u64) -> Result<(), AllocError>
-    ensures { OnOk result (string_bytes text.new ≡ string_bytes text.old ++ pages_line i bad.now pages) }
+    ensures { OnOk result (string_bytes text.new ≡
+        string_bytes text.old ++ pages_line i bad.now pages) }
 {
     let good = pages.saturating_sub(bad.len() as u64);
     write!(text, "slice {i} pages {good} of {pages}\n")

@@ -20,7 +20,7 @@ use std::alloc::{AllocError, Global};
 
 /// The report of a file: for each slice, in order, the first rule that it breaks, or what it is and each hash page
 /// below the limit that does not match its slot or has none. The refusal is that of a file that is no file of
-/// Mach-O images.
+/// Mach-O images. The other error is want of memory.
 pub fn verify<D: Digester>(
     alloc: Global,
     bytes: &[u8],
@@ -125,8 +125,8 @@ fn accepted<D: Digester>(
     })
 }
 
-/// Whether a file is sealed: it has a slice, and each of its slices is a signed image all of whose hash pages below
-/// the limit match.
+/// Whether all of a file matches: it has a slice, and each of its slices is a signed image all of whose hash pages
+/// below the limit match.
 pub fn all_match(reports: &[SliceReport]) -> bool
     ensures { result ≡ saying.all_match reports.now }
 {

@@ -1,22 +1,29 @@
 -- How the run of a file ends, by what was read of it.
-use Rattle.std.proofs.Common.{◌≡◌, ℕ, ◌<◌, List, length, take, Option, Some, Result, Ok, Err, refl, ap, sym, ◌∙◌, arith, inl, inr}
-use Rattle.std.specs.Prelude.{OnOk}
-use Rattle.std.proofs.lemmas.Bool.{cases_lt, lt-ltb}
+use Rattle.std.proofs.Common.{◌≡◌, ℕ, ◌<◌, ◌≤◌, Bool, true, false, List, length, take, Option, Some, None, Result, Ok, Err, refl, ap, sym, ◌∙◌, arith, inl, inr}
+use Rattle.std.specs.Prelude.{OnOk, OnErr, if◌then◌else◌, option_and_then}
+use Rattle.std.specs.Io.KnownBytes.{append_known}
+use Rattle.std.proofs.lemmas.Bool.{cases_lt, lt-ltb, le-ltb}
 use Rattle.std.proofs.lemmas.List.{take_all, length-take}
 use Rattle.pg_bytes.specs.declared.Status.{Status}
 use Rattle.pg_bytes.specs.declared.Status.TheVariants as status
-use Rattle.pg_io.specs.Files.{GivesFirst}
+use Rattle.pg_io.specs.Files.{GivesFirst, Told, next_read}
 use Rattle.macho_slices.specs.declared.refusal.FatRefusal.{FatRefusal}
 use Rattle.macho_slices.specs.Rules as fat
 use Rattle.macho_slices.specs.Refusals.{refusal_of}
 use Rattle.cs_verify.specs.declared.report.SliceReport.{SliceReport}
 use Rattle.pg_digest.specs.Kinds.{Hash}
-use Rattle.cs_verify.specs.Report.{IsReport}
-use Rattle.csverify.specs.Ending.{Ending, most, refused, reported, too_large, verified, of_file, IsVerdict, IsWorded}
+use Rattle.cs_verify.specs.Report.{IsReport, report, all_match}
+use Rattle.csverify.specs.Words.{path_of}
+use Rattle.csverify.specs.Ending.{Ending, most, refused, reported, too_large, judged, verified, of_file, of_path, ending_of, file_of, Ends, IsSealed, IsNotSealed, IsVerdictOf, IsVerdict, IsCaused, IsWorded}
 
 pub OnOk-from : {T E P : Type 0} (r : Result T E) → P → OnOk r P
 OnOk-from (Ok x) h = h
 OnOk-from (Err e) h = tt
+
+-- a fact that holds is one where there is an error
+pub OnErr-from : {T E P : Type 0} (r : Result T E) → P → OnErr r P
+OnErr-from (Ok x) h = tt
+OnErr-from (Err e) h = h
 
 -- a file that has a report
 pub verified_report : (hash : Hash) (bytes : List ℕ) (found : List SliceReport) → IsReport hash bytes found → reported found ≡ verified hash bytes
@@ -31,6 +38,11 @@ verified_refusal hash bytes refusal is = rw is refl
 -- a file with more bytes than it may have
 large : (hash : Hash) (bytes : List ℕ) → most < length bytes → of_file hash (Some bytes) ≡ too_large
 large hash bytes lt = rw (lt-ltb most (length bytes) lt) refl
+
+-- a file with no more
+small : (hash : Hash) (bytes : List ℕ) → length bytes ≤ most → of_file hash (Some bytes) ≡ judged hash bytes (fat.broken bytes)
+unfolding verified
+small hash bytes le = rw (le-ltb most (length bytes) le) refl
 
 -- its first bytes, one more than it may have, end the run as all of them would
 first_bytes : (hash : Hash) (whole : List ℕ) → of_file hash (Some (take 67108865 whole)) ≡ of_file hash (Some whole)
@@ -54,3 +66,95 @@ verdict_worded status.SinkFault text is = tt
 verdict_worded (status.Limit which number) text is = absurd is
 verdict_worded (status.TrustBad item number arg) text is = tt
 verdict_worded status.NoMemory text is = tt
+
+-- which of the two verdicts was chosen tells whether all matched
+all_matched : (b : Bool) → status.Done ≡ (if b then status.Done else status.NotSealed) → b ≡ true
+all_matched true is = refl
+all_matched false is = absurd cc
+
+not_matched : (b : Bool) → status.NotSealed ≡ (if b then status.Done else status.NotSealed) → b ≡ false
+not_matched true is = absurd cc
+not_matched false is = refl
+
+-- a file within the limit that ends as sealed is sealed
+judged_done : (hash : Hash) (bytes : List ℕ) (rule : Option FatRefusal) → length bytes ≤ most → fat.broken bytes ≡ rule → status.Done ≡ (judged hash bytes rule).status → IsSealed hash (Some bytes)
+judged_done hash bytes (Some refusal) fits broken is = absurd cc
+judged_done hash bytes None fits broken is = record {
+  bytes = bytes;
+  read = refl;
+  within = fits;
+  unbroken = broken;
+  matching = all_matched (all_match (report hash bytes)) is;
+}
+
+-- and one that ends as not sealed is not
+judged_not_sealed : (hash : Hash) (bytes : List ℕ) (rule : Option FatRefusal) → length bytes ≤ most → fat.broken bytes ≡ rule → status.NotSealed ≡ (judged hash bytes rule).status → IsNotSealed hash (Some bytes)
+judged_not_sealed hash bytes (Some refusal) fits broken is = record {
+  bytes = bytes;
+  read = refl;
+  within = fits;
+  fault = inl (rw broken refl);
+}
+judged_not_sealed hash bytes None fits broken is = record {
+  bytes = bytes;
+  read = refl;
+  within = fits;
+  fault = inr (not_matched (all_match (report hash bytes)) is);
+}
+
+-- a file that was read ends by its bytes, unless it is too large
+file_done : (hash : Hash) (found : Option (List ℕ)) → status.Done ≡ (of_file hash found).status → IsSealed hash found
+unfolding verified
+file_done hash None is = absurd cc
+file_done hash (Some bytes) is = elim (cases_lt most (length bytes)) [
+  | inl long ↦ let bad : status.Done ≡ too_large.status = is ∙ ap (λ (e : Ending). e.status) (large hash bytes long) in absurd cc
+  | inr short ↦ judged_done hash bytes (fat.broken bytes) short refl (is ∙ ap (λ (e : Ending). e.status) (small hash bytes short))
+]
+
+file_not_sealed : (hash : Hash) (found : Option (List ℕ)) → status.NotSealed ≡ (of_file hash found).status → IsNotSealed hash found
+unfolding verified
+file_not_sealed hash None is = absurd cc
+file_not_sealed hash (Some bytes) is = elim (cases_lt most (length bytes)) [
+  | inl long ↦ let bad : status.NotSealed ≡ too_large.status = is ∙ ap (λ (e : Ending). e.status) (large hash bytes long) in absurd cc
+  | inr short ↦ judged_not_sealed hash bytes (fat.broken bytes) short refl (is ∙ ap (λ (e : Ending). e.status) (small hash bytes short))
+]
+
+-- a run that ends as sealed read a sealed file
+path_done : (hash : Hash) (told : Told) (path : Option (List ℕ)) → status.Done ≡ (of_path hash told path).status → IsSealed hash (option_and_then (next_read told) path)
+path_done hash told None is = absurd cc
+path_done hash told (Some path) is = file_done hash (next_read told path) is
+
+-- and one that ends as not sealed read one that is not
+path_not_sealed : (hash : Hash) (told : Told) (path : Option (List ℕ)) → status.NotSealed ≡ (of_path hash told path).status → IsNotSealed hash (option_and_then (next_read told) path)
+path_not_sealed hash told None is = absurd cc
+path_not_sealed hash told (Some path) is = file_not_sealed hash (next_read told path) is
+
+-- a run that ends by what the files tell has the verdict of the file
+pub ends_verdict : (hash : Hash) (words : List (List ℕ)) (told : Told) (s : Status) (before now : Option (List ℕ)) → Ends (ending_of hash words told) s before now → IsVerdictOf hash (file_of words told) s
+ends_verdict hash words told status.Done before now ends = path_done hash told (path_of words) ends.0
+ends_verdict hash words told status.NotSealed before now ends = path_not_sealed hash told (path_of words) ends.0
+ends_verdict hash words told status.Usage before now ends = tt
+ends_verdict hash words told (status.SceneBad line kind) before now ends = tt
+ends_verdict hash words told (status.FileFault item) before now ends = tt
+ends_verdict hash words told status.SinkFault before now ends = tt
+ends_verdict hash words told (status.Limit which number) before now ends = tt
+ends_verdict hash words told (status.TrustBad item number arg) before now ends = tt
+ends_verdict hash words told status.NoMemory before now ends = tt
+
+-- a status that comes before the first write, and the whole text that went out
+ends_by : (path : Option (List ℕ)) (old new : ℕ) (s : Status) (f : Ending) (before now : Option (List ℕ)) → IsCaused path old new s → s ≡ f.status → now ≡ append_known before f.text → Ends f s before now
+ends_by path old new status.Done f before now cause is sent = (is, sent)
+ends_by path old new status.NotSealed f before now cause is sent = (is, sent)
+ends_by path old new status.Usage f before now cause is sent = (is, sent)
+ends_by path old new (status.SceneBad line kind) f before now cause is sent = absurd cause
+ends_by path old new (status.FileFault item) f before now cause is sent = (is, sent)
+ends_by path old new status.SinkFault f before now cause is sent = absurd cause
+ends_by path old new (status.Limit which number) f before now cause is sent = (is, sent)
+ends_by path old new (status.TrustBad item number arg) f before now cause is sent = absurd cause
+ends_by path old new status.NoMemory f before now cause is sent = absurd cause
+
+-- a run that wrote its whole text ends as its ending says
+pub whole_ends : (path : Option (List ℕ)) (old new : ℕ) (e f : Ending) (before now : Option (List ℕ)) → IsCaused path old new e.status → e ≡ f → now ≡ append_known before e.text → Ends f e.status before now
+whole_ends path old new e f before now cause same sent =
+    ends_by path old new e.status f before now cause (ap (λ (x : Ending). x.status) same)
+    (sent ∙ ap (λ (x : Ending). append_known before x.text) same)

@@ -1,5 +1,5 @@
 -- How a run ends: its status, and the text that it writes.
-use Rattle.std.specs.Prelude.{◌≡◌, ℕ, true, List, ◌++◌, length, codes, Option, Some, None, is_some, nat_lt, if◌then◌else◌}
+use Rattle.std.specs.Prelude.{◌≡◌, ◌⊎◌, ◌≤◌, ℕ, true, IsTrue, IsFalse, List, ◌++◌, length, codes, Option, Some, None, IsSome, is_some, option_and_then, nat_lt, if◌then◌else◌}
 use Rattle.std.specs.Io.KnownBytes.{append_known}
 use Rattle.pg_bytes.specs.Counts.{Rose}
 use Rattle.pg_bytes.specs.declared.Status.{Status}
@@ -52,6 +52,7 @@ abbrev pub judged : Hash → List ℕ → Option FatRefusal → Ending
 judged hash bytes (Some refusal) = refused (refusal_of refusal)
 judged hash bytes None = reported (report hash bytes)
 
+-- a file that is within the limit
 unfoldable pub verified : Hash → List ℕ → Ending
 verified hash bytes = judged hash bytes (fat.broken bytes)
 
@@ -69,13 +70,44 @@ of_path hash told (Some path) = of_file hash (next_read told path)
 abbrev pub ending_of : Hash → List (List ℕ) → Told → Ending
 ending_of hash words told = of_path hash told (path_of words)
 
--- what the files tell after a run: one file is read, and none where the words are refused
+-- what the files tell after a run: one file is read, and none where there is no path
 abbrev pub told_beside : Option (List ℕ) → Told → Told
 told_beside None told = told
 told_beside (Some path) told = after_read told
 
+-- the same by the words, which name the path
 abbrev pub told_after : List (List ℕ) → Told → Told
 told_after words told = told_beside (path_of words) told
+
+-- what is told after a run that gave up: what was told before it, or what is told after it has read
+abbrev pub TellsEither : Told → Told → Option Told → Type 0
+TellsEither before after now = (now ≡ Some before) ⊎ (now ≡ Some after)
+
+-- the bytes of the file that the words name, where it can be read
+abbrev pub file_of : List (List ℕ) → Told → Option (List ℕ)
+file_of words told = option_and_then (next_read told) (path_of words)
+
+-- A file was read, it is within the limit and breaks no rule on fat files, and all of it matches: there is a slice,
+-- and each slice is a signed image whose hash pages below the limit match.
+pub record IsSealed (hash : Hash) (found : Option (List ℕ)) : Type 0 where
+  pub bytes : List ℕ
+  pub read : found ≡ Some bytes
+  pub within : length bytes ≤ most
+  pub unbroken : fat.broken bytes ≡ None
+  pub matching : IsTrue (all_match (report hash bytes))
+
+-- A file was read, it is within the limit, and it breaks a rule on fat files, or not all of it matches.
+pub record IsNotSealed (hash : Hash) (found : Option (List ℕ)) : Type 0 where
+  pub bytes : List ℕ
+  pub read : found ≡ Some bytes
+  pub within : length bytes ≤ most
+  pub fault : IsSome (fat.broken bytes) ⊎ IsFalse (all_match (report hash bytes))
+
+-- what the two verdicts say of the file; the other statuses are no verdict on it
+abbrev pub IsVerdictOf : Hash → Option (List ℕ) → Status → Type 0
+IsVerdictOf hash found status.Done = IsSealed hash found
+IsVerdictOf hash found status.NotSealed = IsNotSealed hash found
+IsVerdictOf hash found other = Unit {0}
 
 -- The run has this status and this text. Where the sink faults, its text is cut short; where memory runs out,
 -- nothing is written.

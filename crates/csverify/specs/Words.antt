@@ -1,7 +1,8 @@
 -- What the words of the command line name.
-use Rattle.std.specs.Prelude.{◌≡◌, List, [], ◌∷◌, codes, true, Option, Some, None}
+use Rattle.std.specs.Prelude.{◌≡◌, List, [], ◌∷◌, codes, Bool, true, not, Option, Some, None}
 use Rattle.clap.specs.Words.{App, Kinds, Rule, Text, new_app, new_rule, with_rule, matches_of, fault_of, first_of, kind_of}
 use Rattle.clap.specs.Simple.{on_top}
+use Rattle.clap.specs.Walk.{is_empty}
 use Rattle.clap.specs.declared.builder.action.ArgAction.TheVariants.{Set}
 use Rattle.clap.specs.declared.error.Error.{Error}
 use Rattle.clap.specs.declared.error.kind.ErrorKind.{ErrorKind}
@@ -21,6 +22,10 @@ without_name app = on_top (λ s. record s { no_binary_name = true }) app
 abbrev pub verifier : App
 verifier = with_rule (without_name (new_app (codes "csverify"))) path_rule
 
+-- whether the command finds a fault in the words
+unfoldable pub is_refused : List Text → Bool
+is_refused words = not (is_empty (fault_of verifier words))
+
 -- what was found, or none where there is a fault
 abbrev pub unless_fault : Kinds → Option Text → Option Text
 unless_fault [] found = found
@@ -35,5 +40,6 @@ abbrev pub fail_of : ErrorKind → WordsFail
 fail_of kind.OutOfMemory = NoMemory
 fail_of other = Usage
 
+-- this is what is made of the error
 abbrev pub IsFailOf : Error → WordsFail → Type 0
 IsFailOf error fail = fail ≡ fail_of (kind_of error)

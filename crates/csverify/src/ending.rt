@@ -1,12 +1,12 @@
 //! How a run ends: everything that it does before it writes.
 
-ghost use Rattle.std.specs.Prelude.{◌≡◌, ◌≢◌, ◌≤◌, ◌<◌, ℕ, map, length, Some, None, IfOk, OnOk, string_bytes};
+ghost use Rattle.std.specs.Prelude.{◌≡◌, ◌≢◌, ◌≤◌, ◌<◌, ℕ, map, length, Some, None, IfOk, OnOk, OnErr, IsTrue, string_bytes};
 ghost use Rattle.pg_bytes.specs.Counts.{Rose};
 ghost use Rattle.pg_digest.specs.Digests.{sha_hash};
 ghost use Rattle.pg_io.specs.Files.{Told, next_read, after_read};
-ghost use Rattle.csverify.specs.Words.{path_of};
+ghost use Rattle.csverify.specs.Words.{path_of, is_refused};
 ghost use Rattle.csverify.specs.Ending as endings;
-ghost use Rattle.csverify.specs.Ending.{verified, of_file, reported, ending_of, told_after, IsVerdict, IsJudged, IsCaused, IsWorded};
+ghost use Rattle.csverify.specs.Ending.{verified, of_file, reported, ending_of, told_after, TellsEither, IsVerdict, IsJudged, IsCaused, IsWorded};
 ghost use Rattle.csverify.specs.EndingView.{ending_in};
 
 use crate::words::{WordsFail, path_of};
@@ -115,8 +115,12 @@ fn after_file(alloc: Global, bytes: &[u8]) -> Result<Plain, AllocError>
 fn after_path<F: Files>(alloc: Global, files: &mut F, path: &str) -> Result<Plain, AllocError>
     ensures told { (told : Told) → F.tells files.old ≡ Some told →
         IfOk result (λ p. ending_in p ≡ of_file sha_hash (next_read told path.now)) }
-    ensures read { (told : Told) → F.tells files.old ≡ Some told → OnOk result (F.tells files.new ≡ Some (after_read told)) }
-    ensures cause { IfOk result (λ p. IsCaused (Some path.now) (F.faults files.old) (F.faults files.new) p.status) }
+    ensures read { (told : Told) → F.tells files.old ≡ Some told →
+        OnOk result (F.tells files.new ≡ Some (after_read told)) }
+    ensures read_short { (told : Told) → F.tells files.old ≡ Some told →
+        OnErr result (TellsEither told (after_read told) (F.tells files.new)) }
+    ensures cause { IfOk result (λ p.
+        IsCaused (Some path.now) (F.faults files.old) (F.faults files.new) p.status) }
     ensures worded { IfOk result (λ p. IsWorded p.status p.text.items) }
 {
     match files.read(alloc, path, MOST + 1) {
@@ -132,8 +136,17 @@ pub fn ending<F: Files>(alloc: Global, words: &[String], files: &mut F) -> Resul
         IfOk result (λ p. ending_in p ≡ ending_of sha_hash (map string_bytes words.now) told) }
     ensures read { (told : Told) → F.tells files.old ≡ Some told →
         OnOk result (F.tells files.new ≡ Some (told_after (map string_bytes words.now) told)) }
-    ensures quiet { path_of (map string_bytes words.now) ≡ None → files.new ≡ files.old }
-    ensures cause { IfOk result (λ p. IsCaused (path_of (map string_bytes words.now)) (F.faults files.old) (F.faults files.new) p.status) }
+    ensures read_short { (told : Told) → F.tells files.old ≡ Some told →
+        OnErr result
+        (TellsEither told (told_after (map string_bytes words.now) told) (F.tells files.new)) }
+    ensures usage { IfOk result (λ p.
+        p.status ≡ Status.Usage → IsTrue (is_refused (map string_bytes words.now))) }
+    ensures other_words { IsTrue (is_refused (map string_bytes words.now)) →
+        IfOk result (λ p. ending_in p ≡ endings.usage) }
+    ensures quiet { IsTrue (is_refused (map string_bytes words.now)) → files.new ≡ files.old }
+    ensures cause { IfOk result (λ p.
+        IsCaused (path_of (map string_bytes words.now))
+        (F.faults files.old) (F.faults files.new) p.status) }
     ensures worded { IfOk result (λ p. IsWorded p.status p.text.items) }
 {
     match path_of(alloc, words) {

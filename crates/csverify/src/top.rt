@@ -1,12 +1,12 @@
 //! The top call: all that the program does.
 
-ghost use Rattle.std.specs.Prelude.{◌≡◌, ◌≢◌, ◌⊎◌, ◌+◌, ◌≤◌, ℕ, map, Some, None, string_bytes};
+ghost use Rattle.std.specs.Prelude.{◌≡◌, ◌≢◌, ◌⊎◌, ◌+◌, ◌≤◌, ℕ, map, Some, None, IsTrue, string_bytes};
 ghost use Rattle.pg_bytes.specs.Counts.{Rose};
 ghost use Rattle.pg_bytes.specs.declared.Which.TheVariants.{FileBytes};
 ghost use Rattle.pg_digest.specs.Digests.{sha_hash};
 ghost use Rattle.pg_io.specs.Files.{Told};
-ghost use Rattle.csverify.specs.Words.{path_of};
-ghost use Rattle.csverify.specs.Ending.{most, ending_of, told_after, Ends, Says};
+ghost use Rattle.csverify.specs.Words.{is_refused};
+ghost use Rattle.csverify.specs.Ending.{usage, most, ending_of, file_of, told_after, IsVerdictOf, TellsEither, Ends, Says};
 
 use crate::ending::ending;
 use pg_bytes::Status;
@@ -16,9 +16,9 @@ use std::alloc::Global;
 /// Runs `csverify` with these words, which do not name the program: one word is the path of a file, and the report on
 /// the file is written. The status is Done where the file has a slice, each of its slices is a signed image, and each
 /// hash page below the limit matches its slot; it is NotSealed where a file of at most 67,108,864 bytes was read and
-/// this does not hold. Of the others Usage is for other words, FileFault of item 0 for a file that could not be read,
-/// Limit for a longer one, each with its line; SinkFault where the output could not be written whole, and NoMemory.
-/// The whole text is made before the first write.
+/// this does not hold. Of the others Usage is for words in which the command line finds a fault, FileFault of item 0
+/// for a file that could not be read, and Limit for a longer one, each with its line; SinkFault is for output that
+/// could not be written whole, and NoMemory for want of memory. The whole text is made before the first write.
 pub fn csverify_main<F: Files, K: Sink>(
     alloc: Global,
     words: &[String],
@@ -27,21 +27,31 @@ pub fn csverify_main<F: Files, K: Sink>(
 ) -> Status
     // Status and output are those that the words and the file's bytes fix.
     ensures output { (told : Told) → F.tells files.old ≡ Some told →
-        Ends (ending_of sha_hash (map string_bytes words.now) told) result (K.written out.old) (K.written out.new) }
+        Ends (ending_of sha_hash (map string_bytes words.now) told) result
+        (K.written out.old) (K.written out.new) }
 
-    // Each status has its cause, and two do not come.
-    ensures usage { result ≡ Status.Usage → path_of (map string_bytes words.now) ≡ None }
-    ensures other_words { path_of (map string_bytes words.now) ≡ None → (result ≡ Status.Usage) ⊎ ((result ≡ Status.SinkFault) ⊎ (result ≡ Status.NoMemory)) }
-    ensures read_fault { (item : ℕ) → result ≡ Status.FileFault item → (item ≡ 0) × Rose (F.faults files.old) (F.faults files.new) }
-    ensures limit { (which : _) (number : ℕ) → result ≡ Status.Limit which number → (which ≡ FileBytes) × (number ≡ most) }
+    // The verdict is that of the file's bytes.
+    ensures verdict { (told : Told) → F.tells files.old ≡ Some told →
+        IsVerdictOf sha_hash (file_of (map string_bytes words.now) told) result }
+
+    // Each other status has its cause, and two do not come.
+    ensures usage { result ≡ Status.Usage → IsTrue (is_refused (map string_bytes words.now)) }
+    ensures other_words { IsTrue (is_refused (map string_bytes words.now)) →
+        Ends usage result (K.written out.old) (K.written out.new) }
+    ensures read_fault { (item : ℕ) → result ≡ Status.FileFault item →
+        (item ≡ 0) × Rose (F.faults files.old) (F.faults files.new) }
+    ensures limit { (which : _) (number : ℕ) → result ≡ Status.Limit which number →
+        (which ≡ FileBytes) × (number ≡ most) }
     ensures early_text { Says result (K.written out.old) (K.written out.new) }
     ensures no_bad_line { (line kind : ℕ) → result ≢ Status.SceneBad line kind }
     ensures no_cache { (item number arg : ℕ) → result ≢ Status.TrustBad item number arg }
 
-    // One file is read, and for other words none.
+    // One file is read, and for other words none; where memory runs out, it may be unread.
     ensures reads { (told : Told) → F.tells files.old ≡ Some told → result ≢ Status.NoMemory →
         F.tells files.new ≡ Some (told_after (map string_bytes words.now) told) }
-    ensures quiet { path_of (map string_bytes words.now) ≡ None → files.new ≡ files.old }
+    ensures reads_short { (told : Told) → F.tells files.old ≡ Some told → result ≡ Status.NoMemory →
+        TellsEither told (told_after (map string_bytes words.now) told) (F.tells files.new) }
+    ensures quiet { IsTrue (is_refused (map string_bytes words.now)) → files.new ≡ files.old }
 
     // A fault of the sink ends the run with its status and no other.
     ensures sound { result ≢ Status.SinkFault → K.faults out.new ≡ K.faults out.old }

@@ -1,7 +1,7 @@
 //! The words of the command line.
 
-ghost use Rattle.std.specs.Prelude.{◌≡◌, IfOk, Some, None, map, string_bytes};
-ghost use Rattle.csverify.specs.Words.{path_of};
+ghost use Rattle.std.specs.Prelude.{◌≡◌, IfOk, OnOk, IsTrue, IsFalse, Some, None, map, string_bytes};
+ghost use Rattle.csverify.specs.Words.{path_of, is_refused};
 
 use clap::error::ErrorKind;
 use clap::{Arg, ArgAction, Command, Error};
@@ -43,7 +43,11 @@ impl From<Error> for WordsFail {
 /// the options; `-` and an empty word are paths.
 pub fn path_of<'a>(alloc: Global, words: &'a [String]) -> Result<&'a str, WordsFail>
     ensures path { IfOk result (λ path. path_of (map string_bytes words.now) ≡ Some path.now) }
-    ensures usage { result ≡ Err WordsFail.Usage → path_of (map string_bytes words.now) ≡ None }
+    ensures accepted { OnOk result (IsFalse (is_refused (map string_bytes words.now))) }
+    ensures usage { result ≡ Err WordsFail.Usage →
+        IsTrue (is_refused (map string_bytes words.now)) }
+    ensures no_path { result ≡ Err WordsFail.Usage →
+        path_of (map string_bytes words.now) ≡ None }
 {
     let path = Arg::new(alloc, "PATH")
         .required(true)

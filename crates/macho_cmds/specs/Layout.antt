@@ -11,9 +11,11 @@ use Rattle.macho_cmds.specs.declared.segment.Segment.{Segment}
 abbrev pub magic : List ℕ → ℕ
 magic bytes = le32_at bytes 0
 
+-- the architecture
 abbrev pub cputype : List ℕ → ℕ
 cputype bytes = le32_at bytes 4
 
+-- the variant of the architecture
 abbrev pub cpusubtype : List ℕ → ℕ
 cpusubtype bytes = le32_at bytes 8
 
@@ -58,14 +60,15 @@ is_segment bytes at = kind bytes at == 0x19
 abbrev pub is_signature : List ℕ → ℕ → Bool
 is_signature bytes at = kind bytes at == 0x1d
 
--- Of a segment command: where the bytes that it maps begin, how many there are, and how many sections follow, which
--- have 80 bytes each behind the 72 of the command.
+-- of a segment command: where the bytes that it maps begin
 abbrev pub fileoff : List ℕ → ℕ → ℕ
 fileoff bytes at = le64_at bytes (at + 40)
 
+-- of a segment command: how many bytes it maps
 abbrev pub filesize : List ℕ → ℕ → ℕ
 filesize bytes at = le64_at bytes (at + 48)
 
+-- of a segment command: how many sections follow, which have 80 bytes each behind the 72 of the command
 abbrev pub section_count : List ℕ → ℕ → ℕ
 section_count bytes at = le32_at bytes (at + 64)
 

@@ -1,6 +1,6 @@
 -- The rules that an image keeps, and the first of them that a slice breaks. Each speaks of the whole image. That a
--- slice begins at a page, that sizes of load commands are multiples of 8, and that there is exactly one signature, is
--- the accepted profile. Every file type is accepted.
+-- slice begins at a page, and that there is exactly one signature, is the accepted profile. Every file type is
+-- accepted.
 -- Source: `mach-o/loader.h`.
 use Rattle.std.specs.Prelude.{◌≡◌, ℕ, ◌+◌, ◌*◌, ◌%◌, ◌≤◌, Bool, not, ◌&&◌, ◌||◌, List, [], ◌∷◌, ◌++◌, length, Option, Some, is_some, is_none, unwrap_or, find, nat_lt, ◌==◌}
 use Rattle.std.specs.List.{range_with_len, flat_map}

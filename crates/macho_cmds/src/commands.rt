@@ -1,6 +1,6 @@
 //! The rules on one load command, tried in their order.
 
-ghost use Rattle.std.specs.Prelude.{◌≡◌, ◌+◌, ◌^◌, ◌<◌, ◌≤◌, IfOk, MatchOption, length, is_some, nat_lt, true, false};
+ghost use Rattle.std.specs.Prelude.{◌≡◌, ◌+◌, ◌^◌, ◌<◌, ◌≤◌, IfOk, MatchOption, IsTrue, IsFalse, length, is_some, nat_lt};
 ghost use Rattle.macho_cmds.specs.Layout.{kind, size, place_of, fileoff, filesize};
 ghost use Rattle.macho_cmds.specs.Layout as layout;
 ghost use Rattle.pg_bytes.specs.Rules.{Tries};
@@ -61,7 +61,10 @@ pub fn checked(bytes: &[u8], at: u64, index: u64, signed: bool) -> Result<Comman
 fn whole_command(bytes: &[u8], at: u64) -> Option<Command>
     requires commands { HasCommands bytes.now }
     requires within { at ≤ layout.commands_end bytes.now }
-    ensures { MatchOption result (is_bad bytes.now at ≡ true) (λ command. (is_bad bytes.now at ≡ false) × (command.kind ≡ kind bytes.now at) × (command.size ≡ size bytes.now at)) }
+    ensures { MatchOption result
+        (IsTrue (is_bad bytes.now at))
+        (λ command. IsFalse (is_bad bytes.now at)
+        × (command.kind ≡ kind bytes.now at) × (command.size ≡ size bytes.now at)) }
 {
     let end = commands_end(bytes);
     if at + 8 > end {

@@ -21,7 +21,7 @@ use std::alloc::Global;
 const MAGIC: u32 = 0xfeed_facf;
 
 /// The image in a slice of a file. The refusal is that of the first rule that is broken; `MachRefusal` has them in
-/// their order.
+/// their order. The other error is want of memory.
 pub fn image(alloc: Global, bytes: &[u8], slice: &Range) -> Result<Image, MachFail>
     requires { slice.now.at + slice.now.len ≤ length bytes.now }
     ensures accepted { IfOk result (IsImage bytes.now slice.now) }
@@ -56,8 +56,11 @@ impl Commands {
     fn add(&mut self, bytes: &[u8], at: u64, kind: u32) -> Result<(), MachFail>
         requires kind { kind ≡ layout.kind bytes.now at }
         requires segment { is_segment bytes.now at ≡ true → at + 72 ≤ length bytes.now }
-        ensures segments { OnOk result (self.new.segments.items ≡ self.old.segments.items ++ (if is_segment bytes.now at then layout.segment_at bytes.now at ∷ [] else [])) }
-        ensures signature { OnOk result (self.new.signature ≡ (if is_signature bytes.now at then Some at else self.old.signature)) }
+        ensures segments { OnOk result (self.new.segments.items ≡
+            self.old.segments.items ++
+            (if is_segment bytes.now at then layout.segment_at bytes.now at ∷ [] else [])) }
+        ensures signature { OnOk result (self.new.signature ≡
+            (if is_signature bytes.now at then Some at else self.old.signature)) }
         ensures refused { IfErr result (Refuses None) }
     {
         match kind {
@@ -92,10 +95,13 @@ fn headed(bytes: &[u8], start: u64) -> Result<(), MachRefusal>
 /// What all load commands say, where the rules on them are kept.
 fn walked(alloc: Global, bytes: &[u8]) -> Result<Commands, MachFail>
     requires { HasCommands bytes.now }
-    ensures segments { IfOk result (λ found. found.segments.items ≡ segments_among bytes.now (command_count bytes.now)) }
+    ensures segments { IfOk result (λ found.
+        found.segments.items ≡ segments_among bytes.now (command_count bytes.now)) }
     ensures signature { IfOk result (λ found. found.signature ≡ signature_place bytes.now) }
-    ensures inside { IfOk result (λ found. All (IsSegmentWithin (length bytes.now)) found.segments.items) }
-    ensures command { IfOk result (λ found. IfSome found.signature (λ at. at + 16 ≤ length bytes.now)) }
+    ensures inside { IfOk result (λ found.
+        All (IsSegmentWithin (length bytes.now)) found.segments.items) }
+    ensures command { IfOk result (λ found.
+        IfSome found.signature (λ at. at + 16 ≤ length bytes.now)) }
     ensures kept { OnOk result (first (command_rules bytes.now) ≡ None) }
     ensures refused { IfErr result (Refuses (first (command_rules bytes.now))) }
 {

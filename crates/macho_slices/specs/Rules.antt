@@ -29,10 +29,15 @@ table_rules width bytes =
     ∷ (nat_lt (length bytes) (table_end width bytes), Short)
     ∷ []
 
+-- whether the slice of record `i` ends behind the file
+abbrev pub ends_behind : Width → List ℕ → ℕ → Bool
+ends_behind width bytes i = nat_lt (length bytes) (offset width bytes i + size width bytes i)
+
 -- on where the slice of record `i` ends
 abbrev pub place_rule : Width → List ℕ → ℕ → Rule FatRefusal
-place_rule width bytes i = (nat_lt (length bytes) (offset width bytes i + size width bytes i), OutOfFile i)
+place_rule width bytes i = (ends_behind width bytes i, OutOfFile i)
 
+-- the same for all records, in their order
 abbrev pub place_rules : Width → List ℕ → List (Rule FatRefusal)
 place_rules width bytes = map (place_rule width bytes) (range_with_len 0 (count bytes))
 
@@ -54,6 +59,7 @@ met slices b = position (λ slice. meets slice (slice_of slices b)) (take b slic
 abbrev pub overlap_rule : List Range → ℕ → Rule FatRefusal
 overlap_rule slices b = (is_some (met slices b), Overlap (unwrap_or (met slices b) 0) b)
 
+-- the same for all slices, in their order
 abbrev pub overlap_rules : List Range → List (Rule FatRefusal)
 overlap_rules slices = map (overlap_rule slices) (range_with_len 0 (length slices))
 

@@ -1,11 +1,11 @@
 //! The rules of a file of Mach-O images, tried in their order.
 
-ghost use Rattle.std.specs.Prelude.{◌≡◌, ◌+◌, ◌^◌, ◌<◌, ◌≤◌, All, IfOk, IfErr, OnOk, None, Some, MatchResult, length, position, true, false};
+ghost use Rattle.std.specs.Prelude.{◌≡◌, ◌+◌, ◌^◌, ◌<◌, ◌≤◌, All, IfOk, IfErr, OnOk, None, Some, MatchResult, IsTrue, IsFalse, length, position};
 ghost use Rattle.pg_bytes.specs.Fields.{be32_at, be64_at, le32_at};
 ghost use Rattle.macho_slices.specs.Layout.{count, form_of, fat_slices, slices_by};
 ghost use Rattle.macho_slices.specs.Layout as layout;
 ghost use Rattle.pg_bytes.specs.Rules.{Tries, first};
-ghost use Rattle.macho_slices.specs.Rules.{Refuses, start_rules, table_rules, place_rule, place_rules, overlap_rules, meets, broken, HasTable};
+ghost use Rattle.macho_slices.specs.Rules.{Refuses, start_rules, table_rules, ends_behind, place_rules, overlap_rules, meets, broken, HasTable};
 ghost use Rattle.macho_slices.specs.Slices.{IsSlices, IsWithin};
 
 use crate::form::{Form, Width};
@@ -27,8 +27,8 @@ const MOST_RECORDS: u64 = 32;
 
 /// The slices of the file, in the order of its records: a thin file is one slice, the whole file, and a fat file has
 /// none where its table is empty. The refusal is that of the first rule that is broken. `FatRefusal` has them in
-/// their order: the places of all slices are tried before any two are compared. Memory is taken once the table is
-/// known to lie within the bytes, for its records only.
+/// their order: the places of all slices are tried before any two are compared. The other error, NoMemory, comes where
+/// there is no memory for the list of slices.
 pub fn slices(alloc: Global, bytes: &[u8]) -> Result<Vec<Range>, FatFail>
     ensures accepted { IfOk result (λ found. IsSlices bytes.now found.items) }
     ensures within { IfOk result (λ found. All (IsWithin bytes.now) found.items) }
@@ -149,7 +149,11 @@ fn placed(alloc: Global, bytes: &[u8], width: Width) -> Result<Vec<Range>, FatFa
 fn placed_slice(bytes: &[u8], width: Width, i: u64) -> Result<Range, FatRefusal>
     requires table { HasTable width bytes.now }
     requires within { i < count bytes.now }
-    ensures { MatchResult result (λ slice. ((place_rule width bytes.now i).0 ≡ false) × (slice ≡ layout.slice_at width bytes.now i)) (λ refusal. ((place_rule width bytes.now i).0 ≡ true) × (refusal ≡ FatRefusal.OutOfFile i)) }
+    ensures { MatchResult result
+        (λ slice. IsFalse (ends_behind width bytes.now i)
+        × (slice ≡ layout.slice_at width bytes.now i))
+        (λ refusal. IsTrue (ends_behind width bytes.now i)
+        × (refusal ≡ FatRefusal.OutOfFile i)) }
 {
     let Range { at, len } = slice_at(bytes, width, i);
     match at.checked_add(len) {

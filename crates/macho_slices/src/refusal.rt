@@ -74,7 +74,7 @@ impl From<FatRefusal> for Refusal {
     }
 }
 
-/// Why there are no slices.
+/// Why the bytes are refused, or that memory ran out.
 #[derive(Clone, Copy, Debug, PartialEq, Eq, Error)]
 pub enum FatFail {
     /// The bytes are no file of Mach-O images.

@@ -1,9 +1,9 @@
-use Rattle.std.proofs.Common.{List, ℕ, Some, ap, sym, ◌∙◌}
+use Rattle.std.proofs.Common.{List, ℕ, Some, ap, sym, ◌∙◌, inl, inr}
 use Rattle.std.proofs.lemmas.Result.{IfOk-weaker}
 use Rattle.pg_digest.specs.Digests.{sha_hash}
 use Rattle.csverify.specs.Ending.{of_file}
 use Rattle.csverify.specs.EndingView.{ending_in}
-use Rattle.csverify.proofs.EndingFacts.{OnOk-from, file_read}
+use Rattle.csverify.proofs.EndingFacts.{OnOk-from, OnErr-from, file_read}
 use Rattle.csverify.proofs.ending.after_path.Goals as goal
 
 pub returns-in-Err-Failed-clause-told : goal.returns-in-Err-Failed-clause-told
@@ -15,6 +15,15 @@ pub returns-in-Err-Failed-clause-read : goal.returns-in-Err-Failed-clause-read
 returns-in-Err-Failed-clause-read g c = λ told tells.
     let gave = rw c.in-Err-Failed.field-0-is at (c.in-Err-Failed.ensures.told told tells) in
     OnOk-from c.unread.result gave.1
+
+pub returns-in-Err-NoMemory-clause-read_short : goal.returns-in-Err-NoMemory-clause-read_short
+returns-in-Err-NoMemory-clause-read_short g c = λ told tells.
+    inl (rw c.in-Err-NoMemory.field-0-is at (c.in-Err-NoMemory.ensures.told told tells))
+
+pub returns-in-Err-Failed-clause-read_short : goal.returns-in-Err-Failed-clause-read_short
+returns-in-Err-Failed-clause-read_short g c = λ told tells.
+    let gave = rw c.in-Err-Failed.field-0-is at (c.in-Err-Failed.ensures.told told tells) in
+    OnErr-from c.unread.result (inr gave.1)
 
 pub returns-in-Ok-clause-told : goal.returns-in-Ok-clause-told
 returns-in-Ok-clause-told g c = λ told tells.

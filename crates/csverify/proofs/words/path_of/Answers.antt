@@ -5,7 +5,7 @@ use Rattle.clap.proofs.CallerLemmas.{one_required_value}
 use Rattle.clap.proofs.WalkLemmas.{first_value-rows}
 use Rattle.csverify.specs.declared.words.WordsFail.TheVariants.{Usage}
 use Rattle.csverify.specs.Words.{verifier, path_rule, without_name}
-use Rattle.csverify.proofs.WordFacts.{path_is, path_refused}
+use Rattle.csverify.proofs.WordFacts.{path_is, words_taken, words_refused, no_path}
 use Rattle.csverify.proofs.words.path_of.Goals as goal
 
 pub returns-in-Some-clause-path : goal.returns-in-Some-clause-path
@@ -17,6 +17,13 @@ returns-in-Some-clause-path c =
     let found = (c.in-Ok.ensures.matches (ap is_simple app_is)).0 in
     path_is (app_of c.in_ok-command.command) _ (rows_of (found_of c.in-Ok.matches)) c.in-Some.path.now app_is none found
     (sym (first_value-rows (found_of c.in-Ok.matches) (codes "PATH")) ∙ sym c.in-Some.ensures)
+
+pub returns-in-Some-clause-accepted : goal.returns-in-Some-clause-accepted
+returns-in-Some-clause-accepted c =
+    let rule_is : rule_of c.action-path.result ≡ path_rule = search rules in
+    let app_is : app_of c.in_ok-command.command ≡ verifier = c.in_ok-command.ensures.shape (search rules)
+    ∙ ap₂ with_rule (ap app_of_fields c.no_binary_name.ensures ∙ ap without_name c.new-2.ensures.app) rule_is in
+    words_taken (app_of c.in_ok-command.command) _ app_is (c.in-Ok.ensures.kinds (ap is_simple_and_free app_is))
 
 pub returns-in-Ok-clause-usage : goal.returns-in-Ok-clause-usage
 returns-in-Ok-clause-usage c = λ _.
@@ -35,10 +42,16 @@ returns-in-Ok-clause-usage c = λ _.
     ∙ (ap (λ (id : List ℕ). is_some (first_value (found_of c.in-Ok.matches) id)) (sym path_id) ∙ given) in
     absurd cc
 
+pub returns-in-Ok-clause-no_path : goal.returns-in-Ok-clause-no_path
+returns-in-Ok-clause-no_path c = λ told. no_path _ (returns-in-Ok-clause-usage c told)
+
 pub returns-clause-usage : goal.returns-clause-usage
 returns-clause-usage c = λ told.
     let same : c.into.result ≡ Usage = cc in
     let rule_is : rule_of c.action-path.result ≡ path_rule = search rules in
     let app_is : app_of c.in_ok-command.command ≡ verifier = c.in_ok-command.ensures.shape (search rules)
     ∙ ap₂ with_rule (ap app_of_fields c.no_binary_name.ensures ∙ ap without_name c.new-2.ensures.app) rule_is in
-    path_refused (app_of c.in_ok-command.command) _ c.in-Err.error app_is (c.in-Err.ensures.kinds (ap is_simple_and_free app_is)) (sym c.into.ensures ∙ same)
+    words_refused (app_of c.in_ok-command.command) _ c.in-Err.error app_is (c.in-Err.ensures.kinds (ap is_simple_and_free app_is)) (sym c.into.ensures ∙ same)
+
+pub returns-clause-no_path : goal.returns-clause-no_path
+returns-clause-no_path c = λ told. no_path _ (returns-clause-usage c told)
