@@ -21,8 +21,8 @@ use std::alloc::Global;
 /// is one; no two have hash types of one rank; a CMS signature is empty; for each type from 1 to 11, a blob of
 /// it has a special slot in the best directory and matches it; that directory's limit is within the slice. The
 /// digester is called at most once for each blob of those types, up to the one that is refused, and once more for
-/// the cdhash. Where a rule before them is broken, or memory runs out, it is not called. On an error the bytes are
-/// dropped.
+/// the cdhash. Where a rule before them is broken, or memory runs out, it is not called. `NoMemory` comes where
+/// there is no memory for the lists of its entries and of its code directories. On an error the bytes are dropped.
 pub fn blob<D: Digester>(
     alloc: Global,
     bytes: Vec<u8>,

@@ -10,10 +10,10 @@ use thiserror::Error;
 /// `blob` gives.
 #[derive(Clone, Copy, Debug, PartialEq, Eq, Error)]
 pub enum BlobRefusal {
-    /// The bytes are neither a code directory nor a SuperBlob.
+    /// The bytes begin with no code directory's magic and are no SuperBlob.
     #[error(transparent)]
     Super(SuperRefusal),
-    /// A code directory among the blobs is refused.
+    /// A code directory is refused, one among the blobs or one that stands alone.
     #[error(transparent)]
     Dir(DirRefusal),
     /// No blob has type 0.

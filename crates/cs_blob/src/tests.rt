@@ -149,6 +149,13 @@ fn best_of_two(rt: HostRuntime) -> Result<(), Fail> {
     put(&mut swapped, 12, 0x1005);
     put(&mut swapped, 20, 0);
     assert_eq!(rt; cdhash(rt.alloc(), &swapped, 4096, 12288)?, FIRST_CDHASH);
+    // The first of SHA-256 cut, which has the greater number and the lesser rank.
+    let mut shorter = PAIR;
+    put(&mut shorter, 64, 0x1403_000c);
+    assert_eq!(rt; cdhash(rt.alloc(), &shorter, 4096, 12288)?, BARE_CDHASH);
+    put(&mut shorter, 16, 178);
+    put(&mut shorter, 24, 28);
+    assert_eq!(rt; cdhash(rt.alloc(), &shorter, 4096, 12288)?, BARE_CDHASH);
     Ok(())
 }
 
@@ -174,6 +181,40 @@ fn pairs(rt: HostRuntime) -> Result<(), Fail> {
         put(&mut bytes, at, number);
         assert_eq!(rt; refusal(rt.alloc(), &bytes)?, expected, "{number} at {at}");
     }
+    Ok(())
+}
+
+/// Two directories of SHA-256 that differ.
+#[test]
+fn two_of_one_rank(rt: HostRuntime) -> Result<(), Fail> {
+    let mut bytes = PAIR;
+    // The first has one code slot of 32 bytes.
+    put(&mut bytes, 56, 1);
+    put(&mut bytes, 64, 0x2002_000c);
+    let same = SameRank { a: 0, b: 0x1000 };
+    assert_eq!(rt; refusal(rt.alloc(), &bytes)?, Some(same));
+    Ok(())
+}
+
+/// A directory of SHA-1 as type 0, and two of SHA-256 that differ in their last bytes, as types 0x1000 and 0x1001.
+#[test]
+fn last_two_of_one_rank(rt: HostRuntime) -> Result<(), Fail> {
+    let index = b"\xfa\xde\x0c\xc0\0\0\x02\x2e\0\0\0\x03\0\0\0\0\0\0\0\x24\
+        \0\0\x10\0\0\0\0\xba\0\0\x10\x01\0\0\x01\x74";
+    let mut bytes = [0; 558];
+    bytes[..36].copy_from_slice(index);
+    bytes[36..186].copy_from_slice(&PAIR[28..178]);
+    bytes[186..372].copy_from_slice(&BARE);
+    bytes[372..].copy_from_slice(&BARE);
+    put(&mut bytes, 554, 0);
+    let same = SameRank {
+        a: 0x1000,
+        b: 0x1001,
+    };
+    assert_eq!(rt; refusal(rt.alloc(), &bytes)?, Some(same));
+    // The last one under a type that is no directory's.
+    put(&mut bytes, 28, 0x1005);
+    assert_eq!(rt; cdhash(rt.alloc(), &bytes, 4096, 12288)?, BARE_CDHASH);
     Ok(())
 }
 
@@ -233,6 +274,26 @@ fn numbers(rt: HostRuntime) -> Result<(), Fail> {
         let mut bytes = SIGNED;
         put(&mut bytes, at, number);
         assert_eq!(rt; refusal(rt.alloc(), &bytes)?, expected, "{number} at {at}");
+    }
+    Ok(())
+}
+
+/// Two rules broken at once.
+#[test]
+fn order_of_the_rules(rt: HostRuntime) -> Result<(), Fail> {
+    for (first, second, expected) in [
+        // The CMS signature as type 1, behind the requirements in the index, and special slot 2 changed.
+        ((28, 1), (154, 0x1743_f987), SpecialMismatch { slot: 1 }),
+        // Type 1 does not match its slot, and type 5 has none.
+        ((20, 5), (28, 1), SpecialMismatch { slot: 1 }),
+        // Type 5 has no slot, and the CMS signature is at the requirements.
+        ((20, 5), (32, 286), CmsPresent { len: 12 }),
+    ] {
+        let mut bytes = SIGNED;
+        for (at, number) in [first, second] {
+            put(&mut bytes, at, number);
+        }
+        assert_eq!(rt; refusal(rt.alloc(), &bytes)?, Some(expected));
     }
     Ok(())
 }

@@ -23,7 +23,8 @@ const MOST_ENTRIES: u64 = 1024;
 /// The entries of the SuperBlob at the front of the bytes, in the order of its table: bytes behind its length
 /// are no part of it. The refusal is that of the first rule that is broken. `SuperRefusal` has them in their
 /// order: the places of all entries are tried before any two types are compared. Memory is taken once the
-/// table is known to lie within the bytes, for its entries only.
+/// table is known to lie within the bytes, for its entries only; `NoMemory` comes where there is none for the
+/// list of them.
 pub fn index(alloc: Global, bytes: &[u8]) -> Result<Vec<Seat>, SuperFail>
     ensures accepted { IfOk result (λ found. IsIndex bytes.now found.items) }
     ensures inside { IfOk result (λ found. All (IsInside bytes.now) found.items) }

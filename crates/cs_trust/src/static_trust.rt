@@ -35,9 +35,9 @@ fn look_over<L: Ledger>(blank: Blank, fixed: &StaticTrust, cdhash: &[u8; 20]) ->
 }
 
 impl StaticTrust {
-    /// These modules, of which the first has the number 0; no memory is taken.
+    /// These modules, fewer than 2^31, of which the first has the number 0; no memory is taken.
     pub fn new(modules: Vec<Module>) -> StaticTrust
-        requires { vec_len modules < 2 ^ 31 }
+        requires few { vec_len modules < 2 ^ 31 }
         ensures { result ≡ modules.items }
     {
         StaticTrust { modules }
@@ -52,7 +52,8 @@ impl StaticTrust {
     }
 
     /// The least module that lists the cdhash, and in it the least place, both counted from 0; `None` exactly
-    /// where no entry of any module has it. A step is one entry compared, and a module takes at most 17.
+    /// where no entry of any module has it. A step is one entry compared, and a module takes at most 17. The
+    /// steps counted before the call are below 2^61.
     pub fn find<L: Ledger>(&self, cdhash: &[u8; 20], steps: &mut Steps<L>) -> Option<(u32, u64)>
         requires room { steps.old < 2 ^ 61 }
         ensures place { result ≡ listed self.now cdhash.now }

@@ -240,6 +240,7 @@ fn run_of_equals(rt: HostRuntime) -> Result<(), Fail> {
         );
         assert_eq!(rt; among.look(&cdhash), place);
     }
+    assert_eq!(rt; cache(rt.alloc(), 2, &[D, D])?.look(&D), Some(0));
     Ok(())
 }
 

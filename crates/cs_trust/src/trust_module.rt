@@ -78,7 +78,8 @@ impl Module {
     }
 
     /// The least place, counted from 0, that has the cdhash, or `None` exactly where no entry has it. A step
-    /// is one entry compared: two to the power of the steps is at most 2n + 1 for n entries.
+    /// is one entry compared: two to the power of the steps is at most 2n + 1 for n entries. The steps counted
+    /// before the call are below 2^62.
     pub fn find<L: Ledger>(&self, cdhash: &[u8; 20], steps: &mut Steps<L>) -> Option<u64>
         requires room { steps.old < 2 ^ 62 }
         ensures place { result ≡ place_of self.now cdhash.now }
