@@ -141,9 +141,9 @@ pub fn ending<F: Files>(alloc: Global, words: &[String], files: &mut F) -> Resul
         (TellsEither told (told_after (map string_bytes words.now) told) (F.tells files.new)) }
     ensures usage { IfOk result (λ p.
         p.status ≡ Status.Usage → IsTrue (is_refused (map string_bytes words.now))) }
-    ensures other_words { IsTrue (is_refused (map string_bytes words.now)) →
+    ensures other_words { path_of (map string_bytes words.now) ≡ None →
         IfOk result (λ p. ending_in p ≡ endings.usage) }
-    ensures quiet { IsTrue (is_refused (map string_bytes words.now)) → files.new ≡ files.old }
+    ensures quiet { path_of (map string_bytes words.now) ≡ None → files.new ≡ files.old }
     ensures cause { IfOk result (λ p.
         IsCaused (path_of (map string_bytes words.now))
         (F.faults files.old) (F.faults files.new) p.status) }

@@ -5,7 +5,7 @@ ghost use Rattle.pg_bytes.specs.Counts.{Rose};
 ghost use Rattle.pg_bytes.specs.declared.Which.TheVariants.{FileBytes};
 ghost use Rattle.pg_digest.specs.Digests.{sha_hash};
 ghost use Rattle.pg_io.specs.Files.{Told};
-ghost use Rattle.csverify.specs.Words.{is_refused};
+ghost use Rattle.csverify.specs.Words.{path_of, is_refused};
 ghost use Rattle.csverify.specs.Ending.{usage, most, ending_of, file_of, told_after, IsVerdictOf, TellsEither, Ends, Says};
 
 use crate::ending::ending;
@@ -36,7 +36,7 @@ pub fn csverify_main<F: Files, K: Sink>(
 
     // Each other status has its cause, and two do not come.
     ensures usage { result ≡ Status.Usage → IsTrue (is_refused (map string_bytes words.now)) }
-    ensures other_words { IsTrue (is_refused (map string_bytes words.now)) →
+    ensures other_words { path_of (map string_bytes words.now) ≡ None →
         Ends usage result (K.written out.old) (K.written out.new) }
     ensures read_fault { (item : ℕ) → result ≡ Status.FileFault item →
         (item ≡ 0) × Rose (F.faults files.old) (F.faults files.new) }
@@ -51,7 +51,7 @@ pub fn csverify_main<F: Files, K: Sink>(
         F.tells files.new ≡ Some (told_after (map string_bytes words.now) told) }
     ensures reads_short { (told : Told) → F.tells files.old ≡ Some told → result ≡ Status.NoMemory →
         TellsEither told (told_after (map string_bytes words.now) told) (F.tells files.new) }
-    ensures quiet { IsTrue (is_refused (map string_bytes words.now)) → files.new ≡ files.old }
+    ensures quiet { path_of (map string_bytes words.now) ≡ None → files.new ≡ files.old }
 
     // A fault of the sink ends the run with its status and no other.
     ensures sound { result ≢ Status.SinkFault → K.faults out.new ≡ K.faults out.old }
