@@ -1,1 +1,5 @@
 pub mod RuleFacts
+pub mod CountFacts
+pub mod SplitFacts
+pub mod CostFacts
+pub mod PageSizeFacts

@@ -36,7 +36,7 @@ impl Octets {
         &self.bytes
     }
 
-    /// An equal value in memory of its own.
+    /// An equal value in memory of its own. The error, `AllocError`, comes where there is no memory for it.
     pub fn copy(&self) -> Result<Octets, AllocError>
         ensures { IfOk result (λ copy. copy ≡ self.now) }
     {

@@ -35,13 +35,15 @@ pub enum Which {
 pub enum Status {
     /// The run is over and its whole text went out.
     Done,
-    /// The verified file has no slice, a refused one, or a page that does not match.
+    /// The verified file is no Mach-O or fat file, or has no slice, a refused slice, a page that does not match its
+    /// slot, or a page without one.
     NotSealed,
     /// The words of the command line are none of the program's forms.
     Usage,
     /// The scene's line `line`, counted from 1, is the first that is bad; `kind` says how.
     SceneBad { line: u64, kind: u8 },
-    /// The file of item `item` could not be read; item 0 is the scene itself.
+    /// The file of item `item` could not be read. Item 0 is the file that the command line names, and the items of a
+    /// scene are counted from 1.
     FileFault { item: u32 },
     /// The output could not be written.
     SinkFault,

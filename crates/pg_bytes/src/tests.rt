@@ -23,6 +23,26 @@ fn fields_by_place(rt: HostRuntime) {
         assert_eq!(rt; be64(&TEXT, at), big, "at {at}");
         assert_eq!(rt; le64(&TEXT, at), little, "at {at}");
     }
+    assert_eq!(rt;
+        (be32_at(&TEXT, 6), le32_at(&TEXT, 6)),
+        (0x0607_0809, 0x0908_0706)
+    );
+    assert_eq!(rt; be64_at(&TEXT, 2), 0x0203_0405_0607_0809);
+    assert_eq!(rt; le64_at(&TEXT, 2), 0x0908_0706_0504_0302);
+}
+
+#[test]
+fn words_behind_the_program(rt: HostRuntime) -> Result<(), std::test::Fail> {
+    let mut words = Vec::new(rt.alloc());
+    assert_eq!(rt; arguments(&words).len(), 0);
+    for word in ["program", "", "path"] {
+        assert_eq!(rt; arguments(&words).len(), words.len().saturating_sub(1));
+        words.push(String::from_str(rt.alloc(), word)?)?;
+    }
+    let given = arguments(&words);
+    assert_eq!(rt; given.len(), 2);
+    assert_eq!(rt; (given[0].as_str(), given[1].as_str()), ("", "path"));
+    Ok(())
 }
 
 #[test]

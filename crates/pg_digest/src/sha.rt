@@ -13,7 +13,7 @@ use sha2::{Digest as _, Sha256, Sha384};
 use std::marker::Model;
 
 /// The digester of the functions of FIPS 180-4, seen as the number of its calls.
-#[derive(Drop)]
+#[derive(Debug, Drop)]
 pub struct ShaDigester {
     calls: u64,
 }
