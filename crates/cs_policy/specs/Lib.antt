@@ -3,3 +3,6 @@ pub mod ProcFlags
 pub mod Access
 pub mod FlagLaws
 pub mod Refusal
+pub mod Denial
+pub mod Data
+pub mod Entry

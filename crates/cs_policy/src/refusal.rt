@@ -29,8 +29,8 @@ pub struct Refusal {
     /// The format: one of `FAT_FAMILY`, `IMAGE_FAMILY`, `SUPERBLOB_FAMILY`, `DIRECTORY_FAMILY`,
     /// `SIGNATURE_FAMILY` and `TRUST_FAMILY`, which are 1 to 6.
     pub family: u8,
-    /// The number of the refusal in its family, counted from 1. The numbers do not follow the order in which
-    /// the rules are tried.
+    /// The number of the refusal in its family, counted from 1. The numbers need not follow the order in
+    /// which the rules are tried.
     pub number: u8,
     /// The refusal's first argument, or 0 where it has none.
     pub a: u64,
