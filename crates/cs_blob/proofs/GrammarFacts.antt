@@ -11,7 +11,7 @@ use Rattle.cs_blob.specs.declared.refusal.BlobFail.TheVariants.{Refused, NoMemor
 use Rattle.pg_bytes.specs.Ranges.{bytes_in}
 use Rattle.cs_blob.specs.Parts.{entries, directories}
 use Rattle.cs_blob.specs.Candidates.{among, best}
-use Rattle.cs_blob.specs.Rules.{first_of, earliest, index_rule, type_rule, each_directory, same_ranks, cms_rule, each_special, limit_rule, broken, Refuses}
+use Rattle.cs_blob.specs.Rules.{first_of, earliest, index_rule, type_rule, each_directory, same_ranks, cms_rule, each_special, fit_rules, broken, Refuses}
 use Rattle.pg_digest.specs.Kinds.{Hash}
 
 -- the last of several rules
@@ -24,44 +24,44 @@ pub record AreKept (bytes : List ℕ) : Type 0 where
   pub parts : first_of (index_rule bytes) (type_rule bytes) ≡ None
   pub directories : each_directory bytes (directories bytes) ≡ None
 
-pub Refuses-parts : (hash : Hash) (bytes : List ℕ) (slice : Range) (fail : BlobFail) → Refuses (first_of (index_rule bytes) (type_rule bytes)) fail → Refuses (broken hash bytes slice) fail
+pub Refuses-parts : (hash : Hash) (bytes : List ℕ) (slice : Range) (page : Option ℕ) (fail : BlobFail) → Refuses (first_of (index_rule bytes) (type_rule bytes)) fail → Refuses (broken hash bytes slice page) fail
 unfolding broken
-Refuses-parts hash bytes slice (Refused refusal) e = rw e refl
-Refuses-parts hash bytes slice NoMemory e = tt
+Refuses-parts hash bytes slice page (Refused refusal) e = rw e refl
+Refuses-parts hash bytes slice page NoMemory e = tt
 
-pub Refuses-directories : (hash : Hash) (bytes : List ℕ) (slice : Range) (fail : BlobFail) → first_of (index_rule bytes) (type_rule bytes) ≡ None → Refuses (each_directory bytes (directories bytes)) fail → Refuses (broken hash bytes slice) fail
+pub Refuses-directories : (hash : Hash) (bytes : List ℕ) (slice : Range) (page : Option ℕ) (fail : BlobFail) → first_of (index_rule bytes) (type_rule bytes) ≡ None → Refuses (each_directory bytes (directories bytes)) fail → Refuses (broken hash bytes slice page) fail
 unfolding broken
-Refuses-directories hash bytes slice (Refused refusal) parts e = rw (parts, e) refl
-Refuses-directories hash bytes slice NoMemory parts e = tt
+Refuses-directories hash bytes slice page (Refused refusal) parts e = rw (parts, e) refl
+Refuses-directories hash bytes slice page NoMemory parts e = tt
 
-pub broken_by_ranks : (hash : Hash) (bytes : List ℕ) (slice : Range) (refusal : BlobRefusal) → AreKept bytes → same_ranks [] (among bytes (directories bytes)) ≡ Some refusal → broken hash bytes slice ≡ Some refusal
+pub broken_by_ranks : (hash : Hash) (bytes : List ℕ) (slice : Range) (page : Option ℕ) (refusal : BlobRefusal) → AreKept bytes → same_ranks [] (among bytes (directories bytes)) ≡ Some refusal → broken hash bytes slice page ≡ Some refusal
 unfolding broken
-broken_by_ranks hash bytes slice refusal kept e = rw (kept.parts, kept.directories, e) refl
+broken_by_ranks hash bytes slice page refusal kept e = rw (kept.parts, kept.directories, e) refl
 
-pub broken_by_cms : (hash : Hash) (bytes : List ℕ) (slice : Range) (refusal : BlobRefusal) → AreKept bytes → same_ranks [] (among bytes (directories bytes)) ≡ None → cms_rule (entries bytes) ≡ Some refusal → broken hash bytes slice ≡ Some refusal
+pub broken_by_cms : (hash : Hash) (bytes : List ℕ) (slice : Range) (page : Option ℕ) (refusal : BlobRefusal) → AreKept bytes → same_ranks [] (among bytes (directories bytes)) ≡ None → cms_rule (entries bytes) ≡ Some refusal → broken hash bytes slice page ≡ Some refusal
 unfolding broken
-broken_by_cms hash bytes slice refusal kept ranks e =
+broken_by_cms hash bytes slice page refusal kept ranks e =
     rw (kept.parts, kept.directories, ranks, e) refl
 
-pub broken_by_special : (hash : Hash) (bytes : List ℕ) (slice : Range) (refusal : BlobRefusal) → AreKept bytes → same_ranks [] (among bytes (directories bytes)) ≡ None → cms_rule (entries bytes) ≡ None → each_special hash bytes (entries bytes) (best bytes) ≡ Some refusal → broken hash bytes slice ≡ Some refusal
+pub broken_by_special : (hash : Hash) (bytes : List ℕ) (slice : Range) (page : Option ℕ) (refusal : BlobRefusal) → AreKept bytes → same_ranks [] (among bytes (directories bytes)) ≡ None → cms_rule (entries bytes) ≡ None → each_special hash bytes (entries bytes) (best bytes) ≡ Some refusal → broken hash bytes slice page ≡ Some refusal
 unfolding broken
-broken_by_special hash bytes slice refusal kept ranks cms e =
+broken_by_special hash bytes slice page refusal kept ranks cms e =
     rw (kept.parts, kept.directories, ranks, cms, e) refl
 
 -- the last rule, and what it answers
-pub broken_by_limit : (hash : Hash) (bytes : List ℕ) (slice : Range) (answer : Option BlobRefusal) → AreKept bytes → same_ranks [] (among bytes (directories bytes)) ≡ None → cms_rule (entries bytes) ≡ None → each_special hash bytes (entries bytes) (best bytes) ≡ None → limit_rule (best bytes) slice ≡ answer → broken hash bytes slice ≡ answer
+pub broken_by_fit : (hash : Hash) (bytes : List ℕ) (slice : Range) (page : Option ℕ) (answer : Option BlobRefusal) → AreKept bytes → same_ranks [] (among bytes (directories bytes)) ≡ None → cms_rule (entries bytes) ≡ None → each_special hash bytes (entries bytes) (best bytes) ≡ None → fit_rules (best bytes) slice page ≡ answer → broken hash bytes slice page ≡ answer
 unfolding broken
-broken_by_limit hash bytes slice answer kept ranks cms specials e =
-    rw (kept.parts, kept.directories, ranks, cms, specials) (last_rule (limit_rule (best bytes) slice) answer e)
+broken_by_fit hash bytes slice page answer kept ranks cms specials e =
+    rw (kept.parts, kept.directories, ranks, cms, specials) (last_rule (fit_rules (best bytes) slice page) answer e)
 
 -- the rules on the parts, over the lists that were found
 pub AreKept-from : (bytes : List ℕ) (seats : List Seat) → seats ≡ directories bytes → first_of (index_rule bytes) (type_rule bytes) ≡ None → each_directory bytes seats ≡ None → AreKept bytes
 AreKept-from bytes seats same parts each = record { parts = parts; directories = rw same at each }
 
 -- the value that the best code directory gives
-pub IsSignature-from : (hash : Hash) (bytes : List ℕ) (slice : Range) (held : Candidate) (code : List ℕ) → IsBest hash bytes slice held → code ≡ cdhash hash (bytes_in bytes held.seat.range) → IsSignature hash bytes slice (record { bytes = bytes; best = held.directory; best_bytes = bytes_in bytes held.seat.range; slice = slice; cdhash = code })
+pub IsSignature-from : (hash : Hash) (bytes : List ℕ) (slice : Range) (page : Option ℕ) (held : Candidate) (code : List ℕ) → IsBest hash bytes slice page held → code ≡ cdhash hash (bytes_in bytes held.seat.range) → IsSignature hash bytes slice page (record { bytes = bytes; best = held.directory; best_bytes = bytes_in bytes held.seat.range; slice = slice; cdhash = code })
 unfolding signature
-IsSignature-from hash bytes slice held code known e = record {
+IsSignature-from hash bytes slice page held code known e = record {
   unbroken = known.unbroken;
   value = rw (e, known.value) refl;
   directory = known.found.directory;

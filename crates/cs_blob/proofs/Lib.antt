@@ -3,3 +3,4 @@ pub mod PartsFacts
 pub mod CandidateFacts
 pub mod GrammarFacts
 pub mod DigestFacts
+pub mod SignatureLaws

@@ -28,12 +28,12 @@ some_cases true false x found rest wider more e = let both : false ≡ true = wi
 some_cases false false x found rest wider more e = more e
 
 -- where an element passes one test, and whatever passes it passes another, some element is left by the other
-filter-some : {X : Type 0} (test other : X → Bool) → ((x : X) → test x ≡ true → other x ≡ true) → (xs : List X) → is_some (find test xs) ≡ true → 0 < length (filter other xs)
+pub filter-some : {X : Type 0} (test other : X → Bool) → ((x : X) → test x ≡ true → other x ≡ true) → (xs : List X) → is_some (find test xs) ≡ true → 0 < length (filter other xs)
 filter-some test other wider [] e = absurd cc
 filter-some test other wider (x ∷ xs) e = some_cases (test x) (other x) x (find test xs) (filter other xs) (wider x) (λ found. filter-some test other wider xs found) e
 
 -- an entry of type 0 is one of a code directory
-first_type : (seat : Seat) → (seat.slot == 0) ≡ true → is_directory_type seat.slot ≡ true
+pub first_type : (seat : Seat) → (seat.slot == 0) ≡ true → is_directory_type seat.slot ≡ true
 first_type seat e = rw e refl
 
 -- a code directory alone

@@ -3,25 +3,10 @@
 use Rattle.std.specs.Prelude.{ℕ, List, [], ◌∷◌, map, fold, Option, Some, None, unwrap_or, nat_lt, if◌then◌else◌}
 use Rattle.pg_digest.specs.Kinds.{rank_of}
 use Rattle.cs_superblob.specs.declared.entries.Seat.{Seat}
-use Rattle.cs_directory.specs.Fields.{Fields}
-use Rattle.cs_directory.specs.Layout.{length_field, version, flags_field, hash_offset, ident_offset, special_slots, code_slots, limit, kind}
+use Rattle.cs_directory.specs.Directory.{directory_in}
 use Rattle.cs_blob.specs.declared.candidates.Candidate.{Candidate}
 use Rattle.pg_bytes.specs.Ranges.{bytes_in}
 use Rattle.cs_blob.specs.Parts.{whole, directories}
-
--- the numbers of the code directory in these bytes
-abbrev pub directory_in : List ℕ → Fields
-directory_in bytes = record {
-  length = length_field bytes;
-  version = version bytes;
-  flags = flags_field bytes;
-  hash_offset = hash_offset bytes;
-  ident_offset = ident_offset bytes;
-  special_slots = special_slots bytes;
-  code_slots = code_slots bytes;
-  limit = limit bytes;
-  kind = kind bytes;
-}
 
 -- the code directory that an entry places
 unfoldable pub candidate : List ℕ → Seat → Candidate

@@ -26,9 +26,13 @@ entries bytes = if is_bare bytes then [] else seats bytes
 abbrev pub is_directory_type : ℕ → Bool
 is_directory_type slot = (slot == 0) || (nat_le 0x1000 slot && nat_le slot 0x1004)
 
+-- those of several entries that place code directories, in their order
+abbrev pub directories_among : List Seat → List Seat
+directories_among seats = filter (λ seat. is_directory_type seat.slot) seats
+
 -- the entries that place code directories, in their order
 unfoldable pub directories : List ℕ → List Seat
-directories bytes = if is_bare bytes then whole bytes ∷ [] else filter (λ seat. is_directory_type seat.slot) (seats bytes)
+directories bytes = if is_bare bytes then whole bytes ∷ [] else directories_among (seats bytes)
 
 -- the entry of a type, of which a SuperBlob has one at most
 abbrev pub entry_of : List Seat → ℕ → Option Seat

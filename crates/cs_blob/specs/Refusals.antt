@@ -4,7 +4,7 @@ use Rattle.cs_policy.specs.declared.refusal.Refusal.{Refusal}
 use Rattle.cs_superblob.specs.Refusals as index
 use Rattle.cs_directory.specs.Refusals as directory
 use Rattle.cs_blob.specs.declared.refusal.BlobRefusal.{BlobRefusal}
-use Rattle.cs_blob.specs.declared.refusal.BlobRefusal.TheVariants.{Super, Dir, NoDirectory, SameRank, CmsPresent, SpecialMismatch, SpecialMissing, LimitPastEnd}
+use Rattle.cs_blob.specs.declared.refusal.BlobRefusal.TheVariants.{Super, Dir, NoDirectory, SameRank, CmsPresent, SpecialMismatch, SpecialMissing, LimitPastEnd, HashPageLarge, SliceOffset}
 
 -- the number by which a refusal is printed
 abbrev pub number_of : BlobRefusal → ℕ
@@ -16,6 +16,8 @@ number_of (CmsPresent len) = 5
 number_of (SpecialMismatch slot) = 6
 number_of (SpecialMissing slot) = 7
 number_of LimitPastEnd = 8
+number_of (HashPageLarge n) = 9
+number_of (SliceOffset at) = 10
 
 -- what else a refusal of the signature's own rules tells, or 0
 abbrev pub arguments_of : BlobRefusal → ℕ × ℕ
@@ -27,6 +29,8 @@ arguments_of (CmsPresent len) = (len, 0)
 arguments_of (SpecialMismatch slot) = (slot, 0)
 arguments_of (SpecialMissing slot) = (slot, 0)
 arguments_of LimitPastEnd = (0, 0)
+arguments_of (HashPageLarge n) = (n, 0)
+arguments_of (SliceOffset at) = (at, 0)
 
 abbrev own_refusal : BlobRefusal → Refusal
 own_refusal refusal = record {

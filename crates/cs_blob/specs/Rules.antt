@@ -2,7 +2,7 @@
 -- and gives its refusal where it is broken. The hash function is that of the digester.
 -- The rules on types, ranks, special slots and the CMS signature are this repository's own profile.
 -- Source: XNU's `cs_blobs.h` and `ubc_subr.c`; Apple TN3126.
-use Rattle.std.specs.Prelude.{◌≡◌, ℕ, List, [], ◌∷◌, ◌++◌, map, find, Option, Some, None, is_some, Result, MatchResult, nat_lt, nat_eq, ◌==◌, if◌then◌else◌}
+use Rattle.std.specs.Prelude.{◌≡◌, ℕ, ◌%◌, List, [], ◌∷◌, ◌++◌, map, find, Option, Some, None, is_some, Result, MatchResult, nat_lt, nat_eq, ◌==◌, if◌then◌else◌}
 use Rattle.std.specs.Option.{option_or, option_map}
 use Rattle.std.specs.List.{range_with_len}
 use Rattle.std.specs.Cmp.Lexicographic.{pointwise}
@@ -11,9 +11,10 @@ use Rattle.cs_superblob.specs.declared.entries.Seat.{Seat}
 use Rattle.cs_superblob.specs.Rules as index
 use Rattle.cs_directory.specs.Rules as directory
 use Rattle.cs_directory.specs.Directory.{special_at}
+use Rattle.cs_directory.specs.HashPages.{bits_of, bytes_of}
 use Rattle.cs_blob.specs.declared.candidates.Candidate.{Candidate}
 use Rattle.cs_blob.specs.declared.refusal.BlobRefusal.{BlobRefusal}
-use Rattle.cs_blob.specs.declared.refusal.BlobRefusal.TheVariants.{Super, Dir, NoDirectory, SameRank, CmsPresent, SpecialMismatch, SpecialMissing, LimitPastEnd}
+use Rattle.cs_blob.specs.declared.refusal.BlobRefusal.TheVariants.{Super, Dir, NoDirectory, SameRank, CmsPresent, SpecialMismatch, SpecialMissing, LimitPastEnd, HashPageLarge, SliceOffset}
 use Rattle.cs_blob.specs.declared.refusal.BlobFail.{BlobFail}
 use Rattle.cs_blob.specs.declared.refusal.BlobFail.TheVariants.{Refused, NoMemory}
 use Rattle.pg_bytes.specs.Ranges.{bytes_in}
@@ -37,6 +38,10 @@ index_rule bytes = if is_bare bytes then None else option_map Super (index.broke
 -- a SuperBlob has a blob of type 0
 unfoldable pub type_rule : List ℕ → Option BlobRefusal
 type_rule bytes = if is_bare bytes then None else (if is_some (entry_of (entries bytes) 0) then None else Some NoDirectory)
+
+-- the rules on which blobs there are
+abbrev pub parts_rule : List ℕ → Option BlobRefusal
+parts_rule bytes = first_of (index_rule bytes) (type_rule bytes)
 
 -- the blob of an entry is a code directory
 unfoldable pub directory_rule : List ℕ → Seat → Option BlobRefusal
@@ -83,19 +88,38 @@ abbrev pub each_special : Hash → List ℕ → List Seat → Candidate → Opti
 each_special hash bytes entries candidate = earliest (map (special_rule hash bytes entries candidate) slot_types)
 
 -- what a code directory signs is within the slice
-unfoldable pub limit_rule : Candidate → Range → Option BlobRefusal
+abbrev pub limit_rule : Candidate → Range → Option BlobRefusal
 limit_rule candidate slice = if nat_lt slice.len candidate.directory.limit then Some LimitPastEnd else None
 
--- The refusal of the first rule that the bytes break, or none where they are a signature of the slice. What
--- stands beside the code directories is held against the best of them.
-unfoldable pub broken : Hash → List ℕ → Range → Option BlobRefusal
-broken hash bytes slice = earliest (
-    first_of (index_rule bytes) (type_rule bytes)
+-- the hash pages of a code directory are no larger than the machine's pages
+abbrev pub page_rule : Candidate → ℕ → Option BlobRefusal
+page_rule candidate page =
+    if nat_lt page (bytes_of candidate.directory.page) then Some (HashPageLarge (bits_of candidate.directory.page)) else None
+
+-- the slice begins where a page of the machine begins
+abbrev pub offset_rule : Range → ℕ → Option BlobRefusal
+offset_rule slice page = if slice.at % page == 0 then None else Some (SliceOffset slice.at)
+
+-- the rules on the machine's pages, which are tried only where their size is given
+abbrev pub machine_rules : Candidate → Range → Option ℕ → Option BlobRefusal
+machine_rules candidate slice None = None
+machine_rules candidate slice (Some page) = first_of (page_rule candidate page) (offset_rule slice page)
+
+-- the rules on how a code directory fits the slice and the machine's pages
+unfoldable pub fit_rules : Candidate → Range → Option ℕ → Option BlobRefusal
+fit_rules candidate slice page = first_of (limit_rule candidate slice) (machine_rules candidate slice page)
+
+-- The refusal of the first rule that the bytes break, or none where they are a signature of the slice on a machine with
+-- pages of this size, or on any where none is given. What stands beside the code directories is held against the best of
+-- them.
+unfoldable pub broken : Hash → List ℕ → Range → Option ℕ → Option BlobRefusal
+broken hash bytes slice page = earliest (
+    parts_rule bytes
     ∷ each_directory bytes (directories bytes)
     ∷ same_ranks [] (among bytes (directories bytes))
     ∷ cms_rule (entries bytes)
     ∷ each_special hash bytes (entries bytes) (best bytes)
-    ∷ limit_rule (best bytes) slice
+    ∷ fit_rules (best bytes) slice page
     ∷ [])
 
 -- a result that tries a rule: it is `Ok` where the rule is kept, and else its refusal

@@ -1,6 +1,6 @@
 -- What it means that bytes are a signature of a slice.
 -- Source: XNU's `cs_blobs.h` and `ubc_subr.c`; Apple TN3126, which says what a cdhash is.
-use Rattle.std.specs.Prelude.{◌≡◌, ℕ, ◌<◌, ◌≤◌, List, length, None, All}
+use Rattle.std.specs.Prelude.{◌≡◌, ℕ, ◌<◌, ◌≤◌, List, length, Option, None, All}
 use Rattle.pg_bytes.specs.declared.fields.Range.{Range}
 use Rattle.pg_digest.specs.Kinds.{Hash, rank_of}
 use Rattle.cs_superblob.specs.declared.entries.Seat.{Seat}
@@ -12,9 +12,10 @@ use Rattle.cs_blob.specs.Candidates.{among, ranked, best}
 use Rattle.cs_blob.specs.Rules.{broken}
 use Rattle.cs_blob.specs.Signature.{Signature}
 
--- the signature that the bytes hold: all but the best directory has no effect
-unfoldable pub signature : Hash → List ℕ → Range → Signature
-signature hash bytes slice = record {
+-- The signature that the bytes hold: all but the best directory has no effect. The size of the machine's pages decides
+-- only whether it is accepted.
+unfoldable pub signature : Hash → List ℕ → Range → Option ℕ → Signature
+signature hash bytes slice page = record {
   bytes = bytes;
   best = (best bytes).directory;
   best_bytes = bytes_in bytes (best bytes).seat.range;
@@ -22,11 +23,11 @@ signature hash bytes slice = record {
   cdhash = cdhash hash (bytes_in bytes (best bytes).seat.range);
 }
 
--- The bytes keep all rules, and the value is what they hold. Its best directory is one that `directory` accepts
+-- The bytes keep all rules on a machine with pages of this size, or on any where none is given, and the value is what they hold. Its best directory is one that `directory` accepts
 -- from the bytes beside it, and no code directory of the signature has a greater rank.
-pub record IsSignature (hash : Hash) (bytes : List ℕ) (slice : Range) (held : Signature) : Type 0 where
-  pub unbroken : broken hash bytes slice ≡ None
-  pub value : held ≡ signature hash bytes slice
+pub record IsSignature (hash : Hash) (bytes : List ℕ) (slice : Range) (page : Option ℕ) (held : Signature) : Type 0 where
+  pub unbroken : broken hash bytes slice page ≡ None
+  pub value : held ≡ signature hash bytes slice page
   pub directory : IsDirectory held.best_bytes held.best
   pub greatest : All (λ candidate. ranked candidate ≤ rank_of held.best.kind) (among bytes (directories bytes))
 
@@ -44,8 +45,8 @@ pub record IsCandidate (bytes : List ℕ) (candidate : Candidate) : Type 0 where
   pub directory : IsDirectory (bytes_in bytes candidate.seat.range) candidate.directory
 
 -- the code directory is the best one of a signature of the slice
-pub record IsBest (hash : Hash) (bytes : List ℕ) (slice : Range) (candidate : Candidate) : Type 0 where
-  pub unbroken : broken hash bytes slice ≡ None
+pub record IsBest (hash : Hash) (bytes : List ℕ) (slice : Range) (page : Option ℕ) (candidate : Candidate) : Type 0 where
+  pub unbroken : broken hash bytes slice page ≡ None
   pub value : candidate ≡ best bytes
   pub found : IsCandidate bytes candidate
   pub greatest : All (λ other. ranked other ≤ ranked candidate) (among bytes (directories bytes))

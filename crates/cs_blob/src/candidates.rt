@@ -5,6 +5,7 @@ ghost use Rattle.cs_blob.specs.Parts.{IsWithin};
 ghost use Rattle.cs_blob.specs.Candidates.{candidate, ranked};
 ghost use Rattle.cs_blob.specs.Candidates as candidates;
 ghost use Rattle.cs_blob.specs.Rules.{directory_rule, each_directory, same_ranks, Tries, Refuses};
+ghost use Rattle.cs_blob.specs.Digests.{IsEarly, IsEarlyFail};
 ghost use Rattle.cs_blob.specs.Signed.{IsCandidate};
 
 use crate::refusal::{BlobFail, BlobRefusal};
@@ -32,6 +33,7 @@ pub fn candidates_of(
     ensures sound { IfOk result (λ found. All (IsCandidate bytes.now) found.items) }
     ensures kept { OnOk result (each_directory bytes.now seats.now ≡ None) }
     ensures refused { IfErr result (Refuses (each_directory bytes.now seats.now)) }
+    ensures early { IfErr result IsEarlyFail }
 {
     let mut found = Vec::with_capacity(alloc, seats.len())?;
     for seat in seats {
@@ -47,6 +49,7 @@ fn candidate_at(bytes: &[u8], seat: &Seat) -> Result<Candidate, BlobRefusal>
     ensures found { IfOk result (λ found. found ≡ candidate bytes.now seat.now) }
     ensures sound { IfOk result (IsCandidate bytes.now) }
     ensures tries { Tries (directory_rule bytes.now seat.now) result }
+    ensures early { IfErr result IsEarly }
 {
     match directory(bytes_in(bytes, &seat.range)) {
         Ok(directory) => Ok(Candidate {
@@ -59,7 +62,8 @@ fn candidate_at(bytes: &[u8], seat: &Seat) -> Result<Candidate, BlobRefusal>
 
 /// The rule on ranks: no two code directories have the same.
 pub fn distinct_ranks(found: &[Candidate]) -> Result<(), BlobRefusal>
-    ensures { Tries (same_ranks [] found.now) result }
+    ensures tries { Tries (same_ranks [] found.now) result }
+    ensures early { IfErr result IsEarly }
 {
     for (i, candidate) in found.iter().enumerate() {
         if let Some(earlier) = of_rank(&found[..i], rank(candidate.directory.kind())) {

@@ -1,11 +1,13 @@
 //! The rules on what stands beside the best code directory.
 
-ghost use Rattle.std.specs.Prelude.{◌≡◌, ◌+◌, ◌-◌, ◌≤◌, ◌<◌, All, IfErr, OnOk};
+ghost use Rattle.std.specs.Prelude.{◌-◌, ◌≤◌, ◌<◌, All, IfErr, OnOk, Some};
 ghost use Rattle.cs_blob.specs.Parts.{IsWithin};
-ghost use Rattle.cs_blob.specs.Digests.{special_blobs, digests_until};
-ghost use Rattle.cs_blob.specs.Rules.{cms_rule, special_rule, each_special, limit_rule, Tries};
+ghost use Rattle.std.specs.Option.{ForSome};
+ghost use Rattle.pg_bytes.specs.Counts.{RoseBy};
+ghost use Rattle.pg_bytes.specs.PageSize.{IsPageSize};
+ghost use Rattle.cs_blob.specs.Digests.{special_blobs, digests_among, digests_to, Digests, IsEarly, IsLast};
+ghost use Rattle.cs_blob.specs.Rules.{cms_rule, special_rule, each_special, fit_rules, machine_rules, Tries};
 ghost use Rattle.cs_blob.specs.Signed.{IsCandidate};
-ghost use Rattle.cs_blob.specs.declared.refusal.BlobRefusal.TheVariants.{LimitPastEnd};
 
 use crate::candidates::Candidate;
 use crate::parts::entry;
@@ -23,7 +25,8 @@ const EMPTY: u64 = 8;
 /// The rule on the CMS signature: only an empty one is accepted.
 #[tactic(auto, unfolding(crate::specs::Rules::cms_rule))]
 pub fn no_cms(entries: &[Seat]) -> Result<(), BlobRefusal>
-    ensures { Tries (cms_rule entries.now) result }
+    ensures tries { Tries (cms_rule entries.now) result }
+    ensures early { IfErr result IsEarly }
 {
     match entry(entries, CMS) {
         Some(seat) if seat.range.len != EMPTY => Err(BlobRefusal::CmsPresent {
@@ -43,9 +46,7 @@ pub fn specials<D: Digester>(
     requires within { All (λ seat. IsWithin bytes.now seat.range) entries.now }
     requires best { IsCandidate bytes.now best.now }
     ensures tries { Tries (each_special D.hash bytes.now entries.now best.now) result }
-    ensures digests { OnOk result (D.calls d.new ≤ D.calls d.old + special_blobs entries.now 11) }
-    ensures until { IfErr result (λ refusal. D.calls d.new ≤ D.calls d.old + digests_until entries.now refusal) }
-    ensures counted { D.calls d.old ≤ D.calls d.new }
+    ensures digests { RoseBy (digests_among entries.now result) (D.calls d.old) (D.calls d.new) }
 {
     for slot in 1..12 {
         special(bytes, entries, best, slot, d)?;
@@ -67,9 +68,8 @@ fn special<D: Digester>(
     requires slot { 0 < slot }
     requires last { slot < 12 }
     ensures tries { Tries (special_rule D.hash bytes.now entries.now best.now slot) result }
-    ensures digests { OnOk result (D.calls d.new + special_blobs entries.now (slot - 1) ≤ D.calls d.old + special_blobs entries.now slot) }
-    ensures until { IfErr result (λ refusal. D.calls d.new + special_blobs entries.now (slot - 1) ≤ D.calls d.old + digests_until entries.now refusal) }
-    ensures counted { D.calls d.old ≤ D.calls d.new }
+    ensures digests { Digests (special_blobs entries.now (slot - 1))
+        (digests_to entries.now slot result) (D.calls d.old) (D.calls d.new) }
 {
     let Some(seat) = entry(entries, slot) else {
         return Ok(());
@@ -86,15 +86,36 @@ fn special<D: Digester>(
     Ok(())
 }
 
-/// The rule on the limit: it is within the slice.
-#[tactic(auto, unfolding(crate::specs::Rules::limit_rule))]
-pub fn limited(best: &Candidate, slice: &Range) -> Result<(), BlobRefusal>
-    ensures tries { Tries (limit_rule best.now slice.now) result }
+/// The rules on how the best code directory fits the slice and the machine's pages, whose size may be given.
+#[tactic(auto, unfolding(crate::specs::Rules::fit_rules))]
+pub fn fits(best: &Candidate, slice: &Range, page: Option<u32>) -> Result<(), BlobRefusal>
+    requires page { ForSome page IsPageSize }
+    ensures tries { Tries (fit_rules best.now slice.now page) result }
     ensures within { OnOk result (best.now.directory.limit ≤ slice.now.len) }
-    ensures only { IfErr result (λ refusal. refusal ≡ LimitPastEnd) }
+    ensures last { IfErr result IsLast }
 {
     if best.directory.limit() > slice.len {
         return Err(BlobRefusal::LimitPastEnd);
+    }
+    match page {
+        Some(page) => fits_pages(best, slice, page),
+        None => Ok(()),
+    }
+}
+
+/// The rules on the machine's pages, of this size: a hash page is no larger, and the slice begins where a page does.
+fn fits_pages(best: &Candidate, slice: &Range, page: u32) -> Result<(), BlobRefusal>
+    requires { 0 < page }
+    ensures tries { Tries (machine_rules best.now slice.now (Some page)) result }
+    ensures last { IfErr result IsLast }
+{
+    if best.directory.page_size() > u64::from(page) {
+        return Err(BlobRefusal::HashPageLarge {
+            n: best.directory.page_bits(),
+        });
+    }
+    if slice.at % u64::from(page) != 0 {
+        return Err(BlobRefusal::SliceOffset { at: slice.at });
     }
     Ok(())
 }

@@ -1,14 +1,15 @@
 //! The blobs of a signature.
 
 ghost use Rattle.std.specs.Prelude.{◌≡◌, ◌==◌, IfOk, IfErr, OnOk, None, filter};
-ghost use Rattle.cs_blob.specs.Parts.{is_directory_type, entry_of};
+ghost use Rattle.cs_blob.specs.Parts.{is_directory_type, directories_among, entry_of};
 ghost use Rattle.cs_blob.specs.Parts as parts;
-ghost use Rattle.cs_blob.specs.Rules.{index_rule, type_rule, Refuses, first_of};
+ghost use Rattle.cs_blob.specs.Rules.{parts_rule, Refuses};
+ghost use Rattle.cs_blob.specs.Digests.{IsEarlyFail};
 ghost use Rattle.cs_blob.specs.Signed.{HasParts};
 
 use crate::refusal::{BlobFail, BlobRefusal};
 use cs_superblob::{Seat, index};
-use pg_bytes::{Range, be32};
+use pg_bytes::{Range, be32_at};
 use std::alloc::{AllocError, Global};
 
 /// The magic by which a code directory is told from other blobs.
@@ -35,9 +36,11 @@ pub fn entry(entries: &[Seat], slot: u32) -> Option<Seat>
 
 /// The blobs of a signature. The rules are those on the SuperBlob and on the type of the directory.
 pub fn parts_of(alloc: Global, bytes: &[u8]) -> Result<Parts, BlobFail>
-    ensures placed { IfOk result (λ found. HasParts bytes.now found.entries.items found.directories.items) }
-    ensures kept { OnOk result (first_of (index_rule bytes.now) (type_rule bytes.now) ≡ None) }
-    ensures refused { IfErr result (Refuses (first_of (index_rule bytes.now) (type_rule bytes.now))) }
+    ensures placed { IfOk result (λ found.
+        HasParts bytes.now found.entries.items found.directories.items) }
+    ensures kept { OnOk result (parts_rule bytes.now ≡ None) }
+    ensures refused { IfErr result (Refuses (parts_rule bytes.now)) }
+    ensures early { IfErr result IsEarlyFail }
 {
     if is_bare(bytes) {
         let mut directories = Vec::new(alloc);
@@ -63,10 +66,7 @@ pub fn parts_of(alloc: Global, bytes: &[u8]) -> Result<Parts, BlobFail>
 fn is_bare(bytes: &[u8]) -> bool
     ensures { result ≡ parts.is_bare bytes.now }
 {
-    match be32(bytes, 0) {
-        Some(magic) => magic == DIRECTORY_MAGIC,
-        None => false,
-    }
+    bytes.len() >= 4 && be32_at(bytes, 0) == DIRECTORY_MAGIC
 }
 
 /// A code directory alone, as an entry that places it.
@@ -84,7 +84,7 @@ fn whole(bytes: &[u8]) -> Seat
 
 /// The entries of code directories, in the order of the index.
 fn directories_of(alloc: Global, entries: &[Seat]) -> Result<Vec<Seat>, AllocError>
-    ensures { IfOk result (λ found. found.items ≡ filter (λ seat. is_directory_type seat.slot) entries.now) }
+    ensures { IfOk result (λ found. found.items ≡ directories_among entries.now) }
 {
     entries
         .iter()

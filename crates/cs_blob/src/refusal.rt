@@ -35,13 +35,19 @@ pub enum BlobRefusal {
     /// The best directory signs more bytes than the slice has.
     #[error("the limit is past the end of the slice")]
     LimitPastEnd,
+    /// The hash pages of the best directory have 2 to the power `n` bytes, more than the machine's pages have.
+    #[error("hash pages of 2^{n} bytes are larger than the machine's pages")]
+    HashPageLarge { n: u64 },
+    /// The slice begins at the byte `at` of its file, which is no multiple of the size of the machine's pages.
+    #[error("the slice begins at {at}, within a page of the machine")]
+    SliceOffset { at: u64 },
 }
 
 impl BlobRefusal {
     ghost use Rattle.std.specs.Prelude.{◌≡◌};
     ghost use Rattle.cs_blob.specs.Refusals.{number_of, arguments_of};
 
-    /// The number by which the refusal is printed, 1 to 8 in the order of the variants.
+    /// The number by which the refusal is printed, 1 to 10 in the order of the variants.
     pub fn number(&self) -> u8
         ensures { result ≡ number_of self.now }
     {
@@ -54,6 +60,8 @@ impl BlobRefusal {
             BlobRefusal::SpecialMismatch { .. } => 6,
             BlobRefusal::SpecialMissing { .. } => 7,
             BlobRefusal::LimitPastEnd => 8,
+            BlobRefusal::HashPageLarge { .. } => 9,
+            BlobRefusal::SliceOffset { .. } => 10,
         }
     }
 
@@ -67,6 +75,8 @@ impl BlobRefusal {
             BlobRefusal::SpecialMismatch { slot } | BlobRefusal::SpecialMissing { slot } => (
                 slot, 0,
             ),
+            BlobRefusal::HashPageLarge { n } => (n, 0),
+            BlobRefusal::SliceOffset { at } => (at, 0),
             _ => (0, 0),
         }
     }

@@ -8,7 +8,7 @@ use std::marker::Model;
 
 /// The signature of one slice, as `blob` accepts it: its bytes, the best of its code directories with the bytes
 /// of that one, the slice, and the cdhash. Contracts see it as a record of these, `specs/Signature.antt`.
-#[derive(Drop)]
+#[derive(Debug, Drop)]
 pub struct Blob {
     pub(crate) bytes: Vec<u8>,
     pub(crate) best: Directory,

@@ -1,33 +1,15 @@
+ghost use Rattle.std.specs.Option.{ForSome};
+ghost use Rattle.pg_bytes.specs.PageSize.{IsPageSize};
+
 use super::*;
 use BlobRefusal::*;
 use cs_directory::DirRefusal;
+use cs_samples::{DIRECTORY, DIRECTORY_CDHASH, put_be32 as put};
 use cs_superblob::SuperRefusal;
 use pg_bytes::Range;
 use pg_digest::{HashKind, ShaDigester};
 use std::alloc::Global;
 use std::test::Fail;
-
-/// A code directory of SHA-256 with three code slots and a limit of 12,288.
-const BARE: [u8; 186] = [
-    0xfa, 0xde, 0x0c, 0x02, 0x00, 0x00, 0x00, 0xba, 0x00, 0x02, 0x04, 0x00, 0x00, 0x02, 0x00, 0x02,
-    0x00, 0x00, 0x00, 0x5a, 0x00, 0x00, 0x00, 0x58, 0x00, 0x00, 0x00, 0x00, 0x00, 0x00, 0x00, 0x03,
-    0x00, 0x00, 0x30, 0x00, 0x20, 0x02, 0x00, 0x0c, 0x00, 0x00, 0x00, 0x00, 0x00, 0x00, 0x00, 0x00,
-    0x00, 0x00, 0x00, 0x00, 0x00, 0x00, 0x00, 0x00, 0x00, 0x00, 0x00, 0x00, 0x00, 0x00, 0x00, 0x00,
-    0x00, 0x00, 0x00, 0x00, 0x00, 0x00, 0x00, 0x00, 0x00, 0x00, 0x00, 0x00, 0x00, 0x00, 0x30, 0x00,
-    0x00, 0x00, 0x00, 0x00, 0x00, 0x00, 0x00, 0x01, 0x61, 0x00, 0x68, 0x96, 0xd9, 0xea, 0x3f, 0x73,
-    0xa4, 0x43, 0x4f, 0x58, 0x32, 0xbc, 0x65, 0x71, 0x4e, 0x7d, 0x06, 0x6f, 0x17, 0x73, 0x73, 0xf3,
-    0x6f, 0x34, 0xdc, 0x8a, 0x6f, 0x73, 0x5d, 0xaa, 0x41, 0xb1, 0x72, 0x5b, 0xcd, 0x6c, 0x66, 0xd0,
-    0x2a, 0xcf, 0x6e, 0xbe, 0xab, 0x9c, 0x92, 0x41, 0x0e, 0x01, 0x0e, 0xa2, 0x2e, 0x33, 0x68, 0x76,
-    0x25, 0x6a, 0xaf, 0x05, 0xa2, 0x11, 0xf4, 0xce, 0x19, 0x02, 0xb2, 0x3f, 0x99, 0xe1, 0xf6, 0x53,
-    0xe6, 0x2f, 0xa5, 0xbc, 0x14, 0xcc, 0x52, 0x8a, 0x9e, 0xc3, 0xb6, 0xd1, 0x1b, 0xe4, 0x82, 0xb2,
-    0xee, 0x51, 0xb5, 0x19, 0xd1, 0xd6, 0xad, 0x8c, 0x54, 0x66,
-];
-
-/// The first 20 bytes of its SHA-256 digest.
-const BARE_CDHASH: [u8; 20] = [
-    0xdd, 0x28, 0x75, 0xb1, 0xed, 0x5d, 0xe5, 0xcd, 0xa3, 0x42, 0x1f, 0xc7, 0xfe, 0x48, 0x69, 0xab,
-    0x72, 0x11, 0x35, 0x10,
-];
 
 /// A directory of SHA-1 as type 0, at 28, and that of SHA-256 as type 0x1000, at 178.
 const PAIR: [u8; 364] = [
@@ -93,17 +75,16 @@ const SIGNED_CDHASH: [u8; 20] = [
     0xf1, 0x58, 0x96, 0xcd,
 ];
 
-/// Writes a number of four bytes.
-fn put(bytes: &mut [u8], at: usize, number: u32) {
-    for (place, byte) in bytes.iter_mut().skip(at).zip(number.to_be_bytes()) {
-        *place = byte;
-    }
-}
-
 /// The cdhash of the signature of a slice that begins at so many bytes and has so many.
 fn cdhash(alloc: Global, bytes: &[u8], at: u64, len: u64) -> Result<[u8; 20], BlobFail> {
     let slice = Range { at, len };
-    let held = blob(alloc, bytes.to_vec(alloc)?, &slice, &mut ShaDigester::new())?;
+    let held = blob(
+        alloc,
+        bytes.to_vec(alloc)?,
+        &slice,
+        None,
+        &mut ShaDigester::new(),
+    )?;
     Ok(*held.cdhash())
 }
 
@@ -122,11 +103,11 @@ fn bare(rt: HostRuntime) -> Result<(), Fail> {
         at: 4096,
         len: 12288,
     };
-    let bytes = BARE.to_vec(rt.alloc())?;
-    let held = blob(rt.alloc(), bytes, &slice, &mut ShaDigester::new())?;
-    assert_eq!(rt; held.cdhash(), &BARE_CDHASH);
-    assert_eq!(rt; held.bytes(), BARE.as_slice());
-    assert_eq!(rt; held.best_bytes(), BARE.as_slice());
+    let bytes = DIRECTORY.to_vec(rt.alloc())?;
+    let held = blob(rt.alloc(), bytes, &slice, None, &mut ShaDigester::new())?;
+    assert_eq!(rt; held.cdhash(), &DIRECTORY_CDHASH);
+    assert_eq!(rt; held.bytes(), DIRECTORY.as_slice());
+    assert_eq!(rt; held.best_bytes(), DIRECTORY.as_slice());
     assert_eq!(rt; held.best().limit(), 12288);
     assert_eq!(rt; held.slice(), &slice);
     Ok(())
@@ -136,15 +117,18 @@ fn bare(rt: HostRuntime) -> Result<(), Fail> {
 fn best_of_two(rt: HostRuntime) -> Result<(), Fail> {
     let slice = Range { at: 0, len: 12288 };
     let bytes = PAIR.to_vec(rt.alloc())?;
-    let held = blob(rt.alloc(), bytes, &slice, &mut ShaDigester::new())?;
-    assert_eq!(rt; held.cdhash(), &BARE_CDHASH);
+    let held = blob(rt.alloc(), bytes, &slice, None, &mut ShaDigester::new())?;
+    assert_eq!(rt; held.cdhash(), &DIRECTORY_CDHASH);
     assert_eq!(rt; held.best().kind(), HashKind::Sha256);
-    assert_eq!(rt; held.best_bytes(), BARE.as_slice());
+    assert_eq!(rt; held.best_bytes(), DIRECTORY.as_slice());
     // The better one first.
     let mut swapped = PAIR;
     put(&mut swapped, 16, 178);
     put(&mut swapped, 24, 28);
-    assert_eq!(rt; cdhash(rt.alloc(), &swapped, 4096, 12288)?, BARE_CDHASH);
+    assert_eq!(rt;
+        cdhash(rt.alloc(), &swapped, 4096, 12288)?,
+        DIRECTORY_CDHASH
+    );
     // The better one under a type that is no directory's.
     put(&mut swapped, 12, 0x1005);
     put(&mut swapped, 20, 0);
@@ -152,10 +136,16 @@ fn best_of_two(rt: HostRuntime) -> Result<(), Fail> {
     // The first of SHA-256 cut, which has the greater number and the lesser rank.
     let mut shorter = PAIR;
     put(&mut shorter, 64, 0x1403_000c);
-    assert_eq!(rt; cdhash(rt.alloc(), &shorter, 4096, 12288)?, BARE_CDHASH);
+    assert_eq!(rt;
+        cdhash(rt.alloc(), &shorter, 4096, 12288)?,
+        DIRECTORY_CDHASH
+    );
     put(&mut shorter, 16, 178);
     put(&mut shorter, 24, 28);
-    assert_eq!(rt; cdhash(rt.alloc(), &shorter, 4096, 12288)?, BARE_CDHASH);
+    assert_eq!(rt;
+        cdhash(rt.alloc(), &shorter, 4096, 12288)?,
+        DIRECTORY_CDHASH
+    );
     Ok(())
 }
 
@@ -204,8 +194,8 @@ fn last_two_of_one_rank(rt: HostRuntime) -> Result<(), Fail> {
     let mut bytes = [0; 558];
     bytes[..36].copy_from_slice(index);
     bytes[36..186].copy_from_slice(&PAIR[28..178]);
-    bytes[186..372].copy_from_slice(&BARE);
-    bytes[372..].copy_from_slice(&BARE);
+    bytes[186..372].copy_from_slice(&DIRECTORY);
+    bytes[372..].copy_from_slice(&DIRECTORY);
     put(&mut bytes, 554, 0);
     let same = SameRank {
         a: 0x1000,
@@ -214,7 +204,7 @@ fn last_two_of_one_rank(rt: HostRuntime) -> Result<(), Fail> {
     assert_eq!(rt; refusal(rt.alloc(), &bytes)?, Some(same));
     // The last one under a type that is no directory's.
     put(&mut bytes, 28, 0x1005);
-    assert_eq!(rt; cdhash(rt.alloc(), &bytes, 4096, 12288)?, BARE_CDHASH);
+    assert_eq!(rt; cdhash(rt.alloc(), &bytes, 4096, 12288)?, DIRECTORY_CDHASH);
     Ok(())
 }
 
@@ -224,12 +214,12 @@ fn one_directory_twice(rt: HostRuntime) -> Result<(), Fail> {
     let index = b"\xfa\xde\x0c\xc0\0\0\0\xd6\0\0\0\x02\0\0\0\0\0\0\0\x1c\0\0\0\0\0\0\0\x1c";
     let mut bytes = [0; 214];
     bytes[..28].copy_from_slice(index);
-    bytes[28..].copy_from_slice(&BARE);
+    bytes[28..].copy_from_slice(&DIRECTORY);
     let twice = Super(SuperRefusal::Twice { slot: 0 });
     assert_eq!(rt; refusal(rt.alloc(), &bytes)?, Some(twice));
     // The second entry under a type that is no directory's.
     put(&mut bytes, 20, 0x1005);
-    assert_eq!(rt; cdhash(rt.alloc(), &bytes, 4096, 12288)?, BARE_CDHASH);
+    assert_eq!(rt; cdhash(rt.alloc(), &bytes, 4096, 12288)?, DIRECTORY_CDHASH);
     Ok(())
 }
 
@@ -310,17 +300,74 @@ fn longer_cms(rt: HostRuntime) -> Result<(), Fail> {
 #[test]
 fn limits(rt: HostRuntime) -> Result<(), Fail> {
     let refused = Some(BlobFail::Refused(LimitPastEnd));
-    assert_eq!(rt; cdhash(rt.alloc(), &BARE, 0, 12287).err(), refused);
-    assert_eq!(rt; cdhash(rt.alloc(), &BARE, 0, 12288)?, BARE_CDHASH);
-    assert_eq!(rt; cdhash(rt.alloc(), &BARE, 4096, 12287).err(), refused);
+    assert_eq!(rt; cdhash(rt.alloc(), &DIRECTORY, 0, 12287).err(), refused);
+    assert_eq!(rt; cdhash(rt.alloc(), &DIRECTORY, 0, 12288)?, DIRECTORY_CDHASH);
+    assert_eq!(rt; cdhash(rt.alloc(), &DIRECTORY, 4096, 12287).err(), refused);
     assert_eq!(rt; cdhash(rt.alloc(), &SIGNED, 4096, 12287).err(), refused);
     assert_eq!(rt; cdhash(rt.alloc(), &SIGNED, 4096, u64::MAX).err(), None);
-    let mut bytes = BARE;
+    let mut bytes = DIRECTORY;
     put(&mut bytes, 44, 1);
     assert_eq!(rt;
         refusal(rt.alloc(), &bytes)?,
         Some(Dir(DirRefusal::Scatter))
     );
+    Ok(())
+}
+
+/// Why a code directory is refused as the signature of a slice of so many bytes, on a machine with pages of this size.
+fn misfit(
+    alloc: Global,
+    bytes: &[u8],
+    slice: &Range,
+    page: Option<u32>,
+) -> Result<Option<BlobRefusal>, BlobFail>
+    requires { ForSome page IsPageSize }
+{
+    match blob(
+        alloc,
+        bytes.to_vec(alloc)?,
+        slice,
+        page,
+        &mut ShaDigester::new(),
+    ) {
+        Ok(_) => Ok(None),
+        Err(BlobFail::Refused(refusal)) => Ok(Some(refusal)),
+        Err(BlobFail::NoMemory) => Err(BlobFail::NoMemory),
+    }
+}
+
+#[test]
+fn pages_of_the_machine(rt: HostRuntime) -> Result<(), Fail> {
+    for (bits, at, len, small, large) in [
+        (12, 0, 12288, None, None),
+        (12, 4096, 12288, None, Some(SliceOffset { at: 4096 })),
+        (
+            12,
+            1,
+            12288,
+            Some(SliceOffset { at: 1 }),
+            Some(SliceOffset { at: 1 }),
+        ),
+        (12, 1, 12287, Some(LimitPastEnd), Some(LimitPastEnd)),
+        (14, 0, 12288, Some(HashPageLarge { n: 14 }), None),
+        (
+            14,
+            4096,
+            12288,
+            Some(HashPageLarge { n: 14 }),
+            Some(SliceOffset { at: 4096 }),
+        ),
+        (14, 49152, 12288, Some(HashPageLarge { n: 14 }), None),
+        (14, 0, 12287, Some(LimitPastEnd), Some(LimitPastEnd)),
+    ] {
+        let mut bytes = DIRECTORY;
+        bytes[39] = bits;
+        let slice = Range { at, len };
+        assert_eq!(rt; misfit(rt.alloc(), &bytes, &slice, Some(4096))?, small);
+        assert_eq!(rt; misfit(rt.alloc(), &bytes, &slice, Some(16_384))?, large);
+        let any = (len < 12288).then_some(LimitPastEnd);
+        assert_eq!(rt; misfit(rt.alloc(), &bytes, &slice, None)?, any);
+    }
     Ok(())
 }
 
@@ -363,7 +410,7 @@ fn cut(rt: HostRuntime) -> Result<(), Fail> {
     }
     for length in 0..186 {
         assert!(rt;
-            refusal(rt.alloc(), &BARE[..length])?.is_some(),
+            refusal(rt.alloc(), &DIRECTORY[..length])?.is_some(),
             "{length} bytes"
         );
     }

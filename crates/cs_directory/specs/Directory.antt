@@ -2,18 +2,21 @@
 -- Source: `CS_CodeDirectory` in XNU's `cs_blobs.h`; Apple TN3126, which says what a cdhash is.
 use Rattle.std.specs.Prelude.{◌≡◌, ℕ, ◌+◌, ◌-◌, ◌*◌, ◌<◌, ◌≤◌, List, length, take, drop, None, ◌==◌}
 use Rattle.std.specs.List.{before_first}
+use Rattle.pg_bytes.specs.Ranges.{bytes_in}
 use Rattle.pg_digest.specs.Kinds.{Hash, size_of}
-use Rattle.cs_directory.specs.Layout.{length_field, version, flags_field, hash_offset, ident_offset, special_slots, code_slots, hash_size, kind, limit, blob_bytes}
+use Rattle.cs_directory.specs.Layout.{length_field, version, flags_field, hash_offset, ident_offset, special_slots, code_slots, hash_size, kind, page, limit, blob_bytes}
 use Rattle.cs_directory.specs.Fields.{Fields}
 use Rattle.cs_directory.specs.Rules.{broken}
 
 -- code slot `i`: the bytes of one hash at that many hashes behind the hash offset
 unfoldable pub slot_at : List ℕ → ℕ → List ℕ
-slot_at bytes i = take (hash_size bytes) (drop (hash_offset bytes + i * hash_size bytes) bytes)
+slot_at bytes i =
+    bytes_in bytes (record { at = hash_offset bytes + i * hash_size bytes; len = hash_size bytes })
 
 -- special slot `t`, counted from 1: the bytes of one hash at that many hashes before the hash offset
 unfoldable pub special_at : List ℕ → ℕ → List ℕ
-special_at bytes t = take (hash_size bytes) (drop (hash_offset bytes - t * hash_size bytes) bytes)
+special_at bytes t =
+    bytes_in bytes (record { at = hash_offset bytes - t * hash_size bytes; len = hash_size bytes })
 
 -- the identifier, without the zero byte that ends it
 unfoldable pub ident_at : List ℕ → List ℕ
@@ -28,22 +31,25 @@ flag_mask = 0x00033f02
 unfoldable pub cdhash : Hash → List ℕ → List ℕ
 cdhash hash bytes = take 20 (hash (kind bytes) (blob_bytes bytes))
 
--- The numbers are those that the layout places in the bytes.
-pub record HasFields (bytes : List ℕ) (d : Fields) : Type 0 where
-  pub length : d.length ≡ length_field bytes
-  pub version : d.version ≡ version bytes
-  pub flags : d.flags ≡ flags_field bytes
-  pub hash_offset : d.hash_offset ≡ hash_offset bytes
-  pub ident_offset : d.ident_offset ≡ ident_offset bytes
-  pub special_slots : d.special_slots ≡ special_slots bytes
-  pub code_slots : d.code_slots ≡ code_slots bytes
-  pub limit : d.limit ≡ limit bytes
-  pub kind : d.kind ≡ kind bytes
+-- the numbers that the layout places in the bytes
+abbrev pub directory_in : List ℕ → Fields
+directory_in bytes = record {
+  length = length_field bytes;
+  version = version bytes;
+  flags = flags_field bytes;
+  hash_offset = hash_offset bytes;
+  ident_offset = ident_offset bytes;
+  special_slots = special_slots bytes;
+  code_slots = code_slots bytes;
+  limit = limit bytes;
+  kind = kind bytes;
+  page = page bytes;
+}
 
 -- The bytes begin with a code directory, and the numbers are its. Bytes behind its length do not matter.
 pub record IsDirectory (bytes : List ℕ) (d : Fields) : Type 0 where
   pub unbroken : broken bytes ≡ None
-  pub fields : HasFields bytes d
+  pub fields : d ≡ directory_in bytes
 
 -- The directory lies within the bytes, and its slots and its identifier begin and end within the directory.
 pub record IsInside (bytes : List ℕ) (d : Fields) : Type 0 where

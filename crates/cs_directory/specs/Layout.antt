@@ -6,6 +6,9 @@ use Rattle.pg_bytes.specs.Fields.{be32_at, be64_at}
 use Rattle.pg_digest.specs.declared.kinds.HashKind.{HashKind}
 use Rattle.pg_digest.specs.declared.kinds.HashKind.TheVariants.{Sha1}
 use Rattle.pg_digest.specs.Kinds.{kind_numbered}
+use Rattle.cs_directory.specs.declared.hash_page.HashPage.{HashPage}
+use Rattle.cs_directory.specs.declared.hash_page.HashPage.TheVariants.{Small}
+use Rattle.cs_directory.specs.HashPages.{page_numbered}
 
 -- the number by which a code directory is told from other blobs
 abbrev pub magic : List ℕ → ℕ
@@ -52,8 +55,8 @@ abbrev pub hash_type : List ℕ → ℕ
 hash_type bytes = slice_index bytes 37
 
 -- the base-2 logarithm of the size of a hash page
-abbrev pub page_size : List ℕ → ℕ
-page_size bytes = slice_index bytes 39
+abbrev pub page_bits : List ℕ → ℕ
+page_bits bytes = slice_index bytes 39
 
 -- where the scatter vector begins, or 0; from version 0x20100 on
 abbrev pub scatter_offset : List ℕ → ℕ
@@ -80,6 +83,11 @@ header_length version =
 -- rules refuse it.
 abbrev pub kind : List ℕ → HashKind
 kind bytes = unwrap_or (kind_numbered (hash_type bytes)) Sha1
+
+-- The size of a hash page. A logarithm that no accepted size has is read as that of 4,096 bytes here, and the rules
+-- refuse it.
+abbrev pub page : List ℕ → HashPage
+page bytes = unwrap_or (page_numbered (page_bits bytes)) Small
 
 -- How many bytes of the file are signed: the 64-bit field, where the version has it and it is not 0, and else
 -- the 32-bit field.

@@ -1,3 +1,4 @@
+pub mod HashPages
 pub mod Layout
 pub mod Fields
 pub mod Rules

@@ -1,13 +1,14 @@
 -- The rules that a code directory keeps, and the first of them that a text breaks. Each speaks of the whole
 -- text. What the accepted profile leaves out are other versions than 0x20000 to 0x2ffff, hash pages of another
--- size than 4,096 bytes, and scatter vectors.
+-- size than 4,096 or 16,384 bytes, and scatter vectors.
 -- Source: `CS_CodeDirectory` in XNU's `cs_blobs.h` and its checks in `ubc_subr.c`.
 use Rattle.std.specs.Prelude.{◌≡◌, ℕ, ◌+◌, ◌*◌, ◌≤◌, Bool, not, ◌&&◌, ◌||◌, List, [], ◌∷◌, ◌++◌, length, drop, Option, None, is_none, position, nat_lt, nat_le, ◌==◌}
 use Rattle.pg_bytes.specs.Rules.{Rule, first}
 use Rattle.pg_digest.specs.Kinds.{kind_numbered, size_of}
+use Rattle.cs_directory.specs.HashPages.{page_numbered}
 use Rattle.cs_directory.specs.declared.refusal.DirRefusal.{DirRefusal}
 use Rattle.cs_directory.specs.declared.refusal.DirRefusal.TheVariants.{Short, BadMagic, LengthBad, Version, PageSize, HashType, HashSize, SlotsOut, Scatter, IdentBad, TeamBad}
-use Rattle.cs_directory.specs.Layout.{magic, length_field, version, hash_offset, ident_offset, special_slots, code_slots, hash_size, hash_type, page_size, scatter_offset, team_offset, header_length, kind, blob_bytes}
+use Rattle.cs_directory.specs.Layout.{magic, length_field, version, hash_offset, ident_offset, special_slots, code_slots, hash_size, hash_type, page_bits, scatter_offset, team_offset, header_length, kind, blob_bytes}
 
 -- whether the place is past the directory's end, or no zero byte stands from it to that end
 abbrev pub lacks_text : List ℕ → ℕ → Bool
@@ -33,7 +34,7 @@ frame_rules bytes =
 -- on how pages are hashed
 abbrev pub hash_rules : List ℕ → List (Rule DirRefusal)
 hash_rules bytes =
-    (not (page_size bytes == 12), PageSize (page_size bytes))
+    (is_none (page_numbered (page_bits bytes)), PageSize (page_bits bytes))
     ∷ (is_none (kind_numbered (hash_type bytes)), HashType (hash_type bytes))
     ∷ (not (hash_size bytes == size_of (kind bytes)), HashSize (hash_size bytes))
     ∷ []

@@ -1,13 +1,16 @@
 //! The numbers of a code directory, and what they tell of its bytes.
 
-ghost use Rattle.std.specs.Prelude.{◌≡◌, ◌+◌, ◌*◌, ◌<◌, ◌≤◌, ◌⊎◌, length, take, drop, bit_and, IfNone, IfSome, OnSome};
+ghost use Rattle.std.specs.Prelude.{◌≡◌, ◌+◌, ◌*◌, ◌^◌, ◌<◌, ◌≤◌, ◌⊎◌, length, take, drop, bit_and, IfNone, IfSome, OnSome};
 ghost use Rattle.pg_bytes.specs.Counts.{Rose};
 ghost use Rattle.pg_digest.specs.Kinds.{size_of};
 ghost use Rattle.cs_directory.specs.Rules.{IsFramed};
 ghost use Rattle.cs_directory.specs.Layout as layout;
-ghost use Rattle.cs_directory.specs.Directory.{HasFields, IsDirectory, flag_mask, slot_at, special_at, ident_at, cdhash};
+ghost use Rattle.cs_directory.specs.HashPages.{bits_of, bytes_of};
+ghost use Rattle.cs_directory.specs.Directory.{directory_in, IsDirectory, flag_mask, slot_at, special_at, ident_at, cdhash};
 
-use crate::numbers::{before_zero, behind, front, long_number, number};
+use crate::hash_page::HashPage;
+use crate::texts::{before_zero, behind, front};
+use pg_bytes::{Range, be32_at, be64_at, bytes_in};
 use pg_digest::{Digester, HashKind, digest_bytes, size};
 use std::marker::Model;
 
@@ -26,6 +29,7 @@ pub struct Directory {
     pub(crate) special_slots: u32,
     pub(crate) code_slots: u32,
     pub(crate) kind: HashKind,
+    page: HashPage,
     flags: u32,
     limit: u64,
 }
@@ -45,6 +49,7 @@ impl Model for Directory {
       code_slots = a.code_slots;
       limit = a.limit;
       kind = a.kind;
+      page = a.page;
     } };
 
     ghost inverse = { λ d. record {
@@ -57,6 +62,7 @@ impl Model for Directory {
       code_slots = d.code_slots;
       limit = d.limit;
       kind = d.kind;
+      page = d.page;
     } };
 }
 
@@ -68,40 +74,33 @@ fn limit_of(bytes: &[u8], version: u32) -> u64
     ensures { result ≡ layout.limit bytes.now }
 {
     if version >= 0x20300 {
-        let long = long_number(bytes, 56);
+        let long = be64_at(bytes, 56);
         if long != 0 {
             return long;
         }
     }
-    u64::from(number(bytes, 32))
-}
-
-/// The `size` bytes at `at`.
-fn part(bytes: &[u8], at: u64, size: u64) -> &[u8]
-    requires { at + size ≤ length bytes.now }
-    ensures bytes { result.now ≡ take size (drop at bytes.now) }
-    ensures size { length result.now ≡ size }
-{
-    &bytes[at as usize..(at + size) as usize]
+    u64::from(be32_at(bytes, 32))
 }
 
 impl Directory {
-    /// The numbers at the front of the bytes, where a header lies whose hash type is `kind`.
-    pub(crate) fn of(bytes: &[u8], kind: HashKind) -> Directory
+    /// The numbers at the front of the bytes, where a header lies whose hash type and size of a hash page are these.
+    pub(crate) fn of(bytes: &[u8], kind: HashKind, page: HashPage) -> Directory
         requires framed { IsFramed bytes.now }
         requires kind { kind ≡ layout.kind bytes.now }
-        ensures { HasFields bytes.now result }
+        requires page { page ≡ layout.page bytes.now }
+        ensures { result ≡ directory_in bytes.now }
     {
-        let version = number(bytes, 8);
+        let version = be32_at(bytes, 8);
         Directory {
-            length: number(bytes, 4),
+            length: be32_at(bytes, 4),
             version,
-            hash_offset: number(bytes, 16),
-            ident_offset: number(bytes, 20),
-            special_slots: number(bytes, 24),
-            code_slots: number(bytes, 28),
+            hash_offset: be32_at(bytes, 16),
+            ident_offset: be32_at(bytes, 20),
+            special_slots: be32_at(bytes, 24),
+            code_slots: be32_at(bytes, 28),
             kind,
-            flags: number(bytes, 12),
+            page,
+            flags: be32_at(bytes, 12),
             limit: limit_of(bytes, version),
         }
     }
@@ -120,7 +119,11 @@ impl Directory {
         }
         let size = u64::from(size(self.kind));
         let start = u64::from(self.hash_offset);
-        Some(part(bytes, start + i * size, size))
+        let slot = Range {
+            at: start + i * size,
+            len: size,
+        };
+        Some(bytes_in(bytes, &slot))
     }
 
     /// Special slot `t`, counted from 1, or `None` exactly where `t` is 0 or there are not so many special
@@ -137,7 +140,11 @@ impl Directory {
         }
         let size = u64::from(size(self.kind));
         let end = u64::from(self.hash_offset);
-        Some(part(bytes, end - t * size, size))
+        let slot = Range {
+            at: end - t * size,
+            len: size,
+        };
+        Some(bytes_in(bytes, &slot))
     }
 
     /// How many bytes of the file the code slots sign: the 64-bit field, where the version has it and it is
@@ -153,6 +160,22 @@ impl Directory {
         ensures { result ≡ self.now.kind }
     {
         self.kind
+    }
+
+    /// How many bytes a hash page has, 4,096 or 16,384: 2 to the power of the field pageSize.
+    pub fn page_size(&self) -> u64
+        ensures size { result ≡ bytes_of self.now.page }
+        ensures power { result ≡ 2 ^ bits_of self.now.page }
+        ensures known { (result ≡ 4096) ⊎ (result ≡ 16384) }
+    {
+        self.page.bytes()
+    }
+
+    /// The field pageSize, 12 or 14: the base-2 logarithm of the size of a hash page.
+    pub fn page_bits(&self) -> u64
+        ensures { result ≡ bits_of self.now.page }
+    {
+        u64::from(self.page.bits())
     }
 
     /// The flags field, without the bits outside `FLAG_MASK`, which have no effect.

@@ -6,11 +6,13 @@ ghost use Rattle.cs_directory.specs.Layout.{hash_size, length_field};
 ghost use Rattle.cs_directory.specs.Layout as layout;
 ghost use Rattle.pg_bytes.specs.Rules.{Tries};
 ghost use Rattle.cs_directory.specs.Rules.{IsFramed, lacks_text, frame_rules, hash_rules, slot_rules, text_rules, broken};
-ghost use Rattle.cs_directory.specs.Directory.{HasFields, IsDirectory, IsInside};
+ghost use Rattle.cs_directory.specs.Directory.{directory_in, IsDirectory, IsInside};
 
 use crate::code_directory::Directory;
-use crate::numbers::{behind, front, number, zero_place};
+use crate::hash_page::{HashPage, page_numbered};
 use crate::refusal::DirRefusal;
+use crate::texts::{behind, front, zero_place};
+use pg_bytes::be32_at;
 use pg_digest::{HashKind, kind_of, size};
 
 /// The magic by which a code directory is told from other blobs of a signature.
@@ -26,8 +28,8 @@ pub fn directory(bytes: &[u8]) -> Result<Directory, DirRefusal>
     ensures refused { IfErr result (λ refusal. broken bytes.now ≡ Some refusal) }
 {
     framed(bytes)?;
-    let kind = hashed(bytes)?;
-    let directory = Directory::of(bytes, kind);
+    let (page, kind) = hashed(bytes)?;
+    let directory = Directory::of(bytes, kind, page);
     slots_placed(bytes, &directory)?;
     named(bytes, &directory)?;
     Ok(directory)
@@ -41,14 +43,14 @@ fn framed(bytes: &[u8]) -> Result<(), DirRefusal>
     if bytes.len() < 44 {
         return Err(DirRefusal::Short);
     }
-    if number(bytes, 0) != MAGIC {
+    if be32_at(bytes, 0) != MAGIC {
         return Err(DirRefusal::BadMagic);
     }
-    let length = u64::from(number(bytes, 4));
+    let length = u64::from(be32_at(bytes, 4));
     if length < 44 || length > bytes.len() as u64 {
         return Err(DirRefusal::LengthBad);
     }
-    let version = number(bytes, 8);
+    let version = be32_at(bytes, 8);
     if !(0x20000..=0x2ffff).contains(&version) {
         return Err(DirRefusal::Version {
             v: u64::from(version),
@@ -76,18 +78,17 @@ fn header_length(version: u32) -> u64
 }
 
 /// The rules on how pages are hashed.
-fn hashed(bytes: &[u8]) -> Result<HashKind, DirRefusal>
+fn hashed(bytes: &[u8]) -> Result<(HashPage, HashKind), DirRefusal>
     requires { 44 ≤ length bytes.now }
     ensures tries { Tries (hash_rules bytes.now) result }
-    ensures kind { IfOk result (λ kind. kind ≡ layout.kind bytes.now) }
-    ensures size { IfOk result (λ kind. hash_size bytes.now ≡ size_of kind) }
+    ensures page { IfOk result (λ found. found.0 ≡ layout.page bytes.now) }
+    ensures kind { IfOk result (λ found. found.1 ≡ layout.kind bytes.now) }
+    ensures size { IfOk result (λ found. hash_size bytes.now ≡ size_of found.1) }
 {
-    let page_size = bytes[39];
-    if page_size != 12 {
-        return Err(DirRefusal::PageSize {
-            n: u64::from(page_size),
-        });
-    }
+    let bits = bytes[39];
+    let Some(page) = page_numbered(bits) else {
+        return Err(DirRefusal::PageSize { n: u64::from(bits) });
+    };
     let hash_type = bytes[37];
     let Some(kind) = kind_of(hash_type) else {
         return Err(DirRefusal::HashType {
@@ -100,14 +101,14 @@ fn hashed(bytes: &[u8]) -> Result<HashKind, DirRefusal>
             n: u64::from(hash_size),
         });
     }
-    Ok(kind)
+    Ok((page, kind))
 }
 
 /// The rules on where the slots lie.
 #[tactic(auto, unfolding(crate::specs::Layout::header_length))]
 fn slots_placed(bytes: &[u8], d: &Directory) -> Result<(), DirRefusal>
     requires framed { IsFramed bytes.now }
-    requires fields { HasFields bytes.now d.now }
+    requires fields { d.now ≡ directory_in bytes.now }
     requires size { hash_size bytes.now ≡ size_of d.now.kind }
     ensures { Tries (slot_rules bytes.now) result }
 {
@@ -118,7 +119,7 @@ fn slots_placed(bytes: &[u8], d: &Directory) -> Result<(), DirRefusal>
     {
         return Err(DirRefusal::SlotsOut);
     }
-    if d.version >= 0x20100 && number(bytes, 44) != 0 {
+    if d.version >= 0x20100 && be32_at(bytes, 44) != 0 {
         return Err(DirRefusal::Scatter);
     }
     Ok(())
@@ -128,14 +129,14 @@ fn slots_placed(bytes: &[u8], d: &Directory) -> Result<(), DirRefusal>
 #[tactic(auto, unfolding(crate::specs::Layout::header_length))]
 fn named(bytes: &[u8], d: &Directory) -> Result<(), DirRefusal>
     requires framed { IsFramed bytes.now }
-    requires fields { HasFields bytes.now d.now }
+    requires fields { d.now ≡ directory_in bytes.now }
     ensures { Tries (text_rules bytes.now) result }
 {
     if no_text(bytes, d.length, d.ident_offset) {
         return Err(DirRefusal::IdentBad);
     }
     if d.version >= 0x20200 {
-        let team_offset = number(bytes, 48);
+        let team_offset = be32_at(bytes, 48);
         if team_offset != 0 && no_text(bytes, d.length, team_offset) {
             return Err(DirRefusal::TeamBad);
         }

@@ -7,11 +7,13 @@
 
 mod code_directory;
 mod grammar;
-mod numbers;
+mod hash_page;
 mod refusal;
+mod texts;
 
 pub use code_directory::{Directory, FLAG_MASK};
 pub use grammar::directory;
+pub use hash_page::HashPage;
 pub use refusal::DirRefusal;
 
 #[cfg(test)]

@@ -18,7 +18,7 @@ pub enum DirRefusal {
     /// The version `v` is not from 0x20000 to 0x2ffff.
     #[error("version {v} is not known")]
     Version { v: u64 },
-    /// A hash page has 2 to the power `n` bytes and not 4,096.
+    /// A hash page has 2 to the power `n` bytes, and `n` is neither 12 nor 14.
     #[error("page size 2^{n} is not known")]
     PageSize { n: u64 },
     /// The number `n` is no hash type.

@@ -1,39 +1,8 @@
 use super::*;
 use DirRefusal::*;
+use cs_samples::{DIRECTORY, DIRECTORY_CDHASH, put_be32 as put};
 use pg_digest::{HashKind, ShaDigester};
 use std::test::Fail;
-
-/// A directory of version 0x20400 with three code slots, the digests of 4,096 bytes 0x41, 0x42 and 0x43.
-const SAMPLE: [u8; 186] = [
-    0xfa, 0xde, 0x0c, 0x02, 0x00, 0x00, 0x00, 0xba, // magic, length
-    0x00, 0x02, 0x04, 0x00, 0x00, 0x02, 0x00, 0x02, // version, flags
-    0x00, 0x00, 0x00, 0x5a, 0x00, 0x00, 0x00, 0x58, // hash offset, identifier offset
-    0x00, 0x00, 0x00, 0x00, 0x00, 0x00, 0x00, 0x03, // special slots, code slots
-    0x00, 0x00, 0x30, 0x00, 0x20, 0x02, 0x00, 0x0c, // limit, hash size, hash type, platform, page size
-    0x00, 0x00, 0x00, 0x00, 0x00, 0x00, 0x00, 0x00, // spare, scatter offset
-    0x00, 0x00, 0x00, 0x00, 0x00, 0x00, 0x00, 0x00, // team offset, spare
-    0x00, 0x00, 0x00, 0x00, 0x00, 0x00, 0x00, 0x00, // limit in 64 bits
-    0x00, 0x00, 0x00, 0x00, 0x00, 0x00, 0x00, 0x00, // executable segment: base
-    0x00, 0x00, 0x00, 0x00, 0x00, 0x00, 0x30, 0x00, // its limit
-    0x00, 0x00, 0x00, 0x00, 0x00, 0x00, 0x00, 0x01, // its flags
-    0x61, 0x00, // identifier
-    0x68, 0x96, 0xd9, 0xea, 0x3f, 0x73, 0xa4, 0x43, 0x4f, 0x58, 0x32, 0xbc, 0x65, 0x71, 0x4e, 0x7d,
-    0x06, 0x6f, 0x17, 0x73, 0x73, 0xf3, 0x6f, 0x34, 0xdc, 0x8a, 0x6f, 0x73, 0x5d, 0xaa, 0x41, 0xb1,
-    0x72, 0x5b, 0xcd, 0x6c, 0x66, 0xd0, 0x2a, 0xcf, 0x6e, 0xbe, 0xab, 0x9c, 0x92, 0x41, 0x0e, 0x01,
-    0x0e, 0xa2, 0x2e, 0x33, 0x68, 0x76, 0x25, 0x6a, 0xaf, 0x05, 0xa2, 0x11, 0xf4, 0xce, 0x19, 0x02,
-    0xb2, 0x3f, 0x99, 0xe1, 0xf6, 0x53, 0xe6, 0x2f, 0xa5, 0xbc, 0x14, 0xcc, 0x52, 0x8a, 0x9e, 0xc3,
-    0xb6, 0xd1, 0x1b, 0xe4, 0x82, 0xb2, 0xee, 0x51, 0xb5, 0x19, 0xd1, 0xd6, 0xad, 0x8c, 0x54, 0x66,
-];
-
-const SAMPLE_CDHASH: &[u8; 20] =
-    b"\xdd\x28\x75\xb1\xed\x5d\xe5\xcd\xa3\x42\x1f\xc7\xfe\x48\x69\xab\x72\x11\x35\x10";
-
-/// Writes a number of four bytes.
-fn put(bytes: &mut [u8], at: usize, number: u32) {
-    for (place, byte) in bytes.iter_mut().skip(at).zip(number.to_be_bytes()) {
-        *place = byte;
-    }
-}
 
 /// Writes the same byte so many times.
 fn fill(bytes: &mut [u8], at: u32, count: u32, byte: u8) {
@@ -68,27 +37,31 @@ fn made(version: u32, header: u8, hash_type: u8, size: u8) -> [u8; 242] {
 
 #[test]
 fn sample(rt: HostRuntime) -> Result<(), Fail> {
-    let d = directory(&SAMPLE)?;
+    let d = directory(&DIRECTORY)?;
     assert_eq!(rt;
         (d.length(), d.version(), d.flags()),
         (186, 0x20400, 0x20002)
     );
     assert_eq!(rt; (d.limit(), d.kind()), (12288, HashKind::Sha256));
     assert_eq!(rt; (d.slots(), d.special_slots()), (3, 0));
-    assert_eq!(rt; d.ident(&SAMPLE), b"a".as_slice());
-    assert_eq!(rt; d.slot(&SAMPLE, 1), Some(&SAMPLE[122..154]));
-    assert_eq!(rt; d.slot(&SAMPLE, 3), None);
-    assert_eq!(rt; d.special(&SAMPLE, 1), None);
-    assert_eq!(rt; &d.cdhash(&SAMPLE, &mut ShaDigester::new()), SAMPLE_CDHASH);
+    assert_eq!(rt; (d.page_size(), d.page_bits()), (4096, 12));
+    assert_eq!(rt; d.ident(&DIRECTORY), b"a".as_slice());
+    assert_eq!(rt; d.slot(&DIRECTORY, 1), Some(&DIRECTORY[122..154]));
+    assert_eq!(rt; d.slot(&DIRECTORY, 3), None);
+    assert_eq!(rt; d.special(&DIRECTORY, 1), None);
+    assert_eq!(rt;
+        &d.cdhash(&DIRECTORY, &mut ShaDigester::new()),
+        &DIRECTORY_CDHASH
+    );
     Ok(())
 }
 
 #[test]
 fn cut(rt: HostRuntime) {
-    for length in 0..SAMPLE.len() {
+    for length in 0..DIRECTORY.len() {
         let expected = if length < 44 { Short } else { LengthBad };
         assert_eq!(rt;
-            directory(&SAMPLE[..length]).err(),
+            directory(&DIRECTORY[..length]).err(),
             Some(expected),
             "{length} bytes"
         );
@@ -98,10 +71,13 @@ fn cut(rt: HostRuntime) {
 #[test]
 fn bytes_behind(rt: HostRuntime) -> Result<(), Fail> {
     let mut bytes = [0; 200];
-    bytes[..186].copy_from_slice(&SAMPLE);
+    bytes[..186].copy_from_slice(&DIRECTORY);
     let d = directory(&bytes)?;
     assert_eq!(rt; d.length(), 186);
-    assert_eq!(rt; &d.cdhash(&bytes, &mut ShaDigester::new()), SAMPLE_CDHASH);
+    assert_eq!(rt;
+        &d.cdhash(&bytes, &mut ShaDigester::new()),
+        &DIRECTORY_CDHASH
+    );
     // The zero bytes behind the directory end no text of it.
     put(&mut bytes, 20, 185);
     assert_eq!(rt; directory(&bytes).err(), Some(IdentBad));
@@ -167,7 +143,7 @@ fn numbers(rt: HostRuntime) {
         (52, most, None),
         (60, most, None),
     ] {
-        let mut bytes = SAMPLE;
+        let mut bytes = DIRECTORY;
         put(&mut bytes, at, number);
         assert_eq!(rt; directory(&bytes).err(), expected, "{number} at {at}");
     }
@@ -190,17 +166,29 @@ fn small_numbers(rt: HostRuntime) {
         (39, 0, Some(PageSize { n: 0 })),
         (39, 11, Some(PageSize { n: 11 })),
         (39, 13, Some(PageSize { n: 13 })),
+        (39, 14, None),
+        (39, 15, Some(PageSize { n: 15 })),
         (39, 255, Some(PageSize { n: 255 })),
     ] {
-        let mut bytes = SAMPLE;
+        let mut bytes = DIRECTORY;
         fill(&mut bytes, at, 1, number);
         assert_eq!(rt; directory(&bytes).err(), expected, "{number} at {at}");
     }
 }
 
 #[test]
+fn large_hash_pages(rt: HostRuntime) -> Result<(), Fail> {
+    let mut bytes = DIRECTORY;
+    bytes[39] = 14;
+    let d = directory(&bytes)?;
+    assert_eq!(rt; (d.page_size(), d.page_bits()), (16_384, 14));
+    assert_eq!(rt; (d.slots(), d.limit()), (3, 12288));
+    Ok(())
+}
+
+#[test]
 fn first_broken_rule(rt: HostRuntime) {
-    let mut bytes = SAMPLE;
+    let mut bytes = DIRECTORY;
     // Every rule is broken, and then they are repaired in their order.
     for (at, number) in [
         (0, 0),
@@ -236,7 +224,7 @@ fn first_broken_rule(rt: HostRuntime) {
 
 #[test]
 fn limit_and_flags(rt: HostRuntime) -> Result<(), Fail> {
-    let mut bytes = SAMPLE;
+    let mut bytes = DIRECTORY;
     put(&mut bytes, 56, 1);
     put(&mut bytes, 12, u32::MAX);
     let d = directory(&bytes)?;

@@ -1,14 +1,15 @@
 -- The rules that a SuperBlob keeps, and the first of them that a text breaks. Each speaks of the whole text.
 -- The limit on entries and the rule that no type stands twice are this repository's own.
 -- Source: `CS_SuperBlob` in XNU's `cs_blobs.h` and its checks in `ubc_subr.c`.
-use Rattle.std.specs.Prelude.{◌≡◌, ℕ, ◌+◌, ◌≤◌, Bool, not, ◌||◌, List, [], ◌∷◌, ◌++◌, length, take, map, Option, Some, None, nat_lt, ◌==◌}
+use Rattle.std.specs.Prelude.{◌≡◌, ℕ, ◌+◌, ◌≤◌, Bool, true, false, not, ◌||◌, List, [], ◌∷◌, ◌++◌, length, take, map, Option, Some, None, nat_lt, ◌==◌}
 use Rattle.std.specs.List.{list_any}
 use Rattle.pg_bytes.specs.Rules.{Rule, first}
+use Rattle.cs_superblob.specs.declared.entries.Seat.{Seat}
 use Rattle.cs_superblob.specs.declared.refusal.SuperRefusal.{SuperRefusal}
 use Rattle.cs_superblob.specs.declared.refusal.SuperRefusal.TheVariants.{Short, BadMagic, LengthBad, CountBad, EntryOut, Twice}
 use Rattle.cs_superblob.specs.declared.refusal.SuperFail.{SuperFail}
 use Rattle.cs_superblob.specs.declared.refusal.SuperFail.TheVariants.{Refused, NoMemory}
-use Rattle.cs_superblob.specs.Layout.{magic, length_field, count, table_end, slot_type, offset, blob_length, indexes, seats}
+use Rattle.cs_superblob.specs.Layout.{magic, length_field, count, table_end, slot_type, offset, blob_length, indexes, seat_at, seats}
 
 -- on the header and on how long the table is
 abbrev pub frame_rules : List ℕ → List (Rule SuperRefusal)
@@ -63,3 +64,13 @@ pub record IsFramed (bytes : List ℕ) : Type 0 where
   pub few : count bytes ≤ 1024
   pub table : table_end bytes ≤ length_field bytes
   pub within : length_field bytes ≤ length bytes
+
+-- The blob of entry `i` is in place, and this is what the entry says.
+pub record IsPlaced (bytes : List ℕ) (i : ℕ) (seat : Seat) : Type 0 where
+  pub inside : is_out bytes i ≡ false
+  pub value : seat ≡ seat_at bytes i
+
+-- The blob of entry `i` is out of place, and the refusal says so.
+pub record IsMisplaced (bytes : List ℕ) (i : ℕ) (refusal : SuperRefusal) : Type 0 where
+  pub outside : is_out bytes i ≡ true
+  pub value : refusal ≡ EntryOut i

@@ -2,6 +2,7 @@ ghost use Rattle.std.specs.Prelude.{◌≤◌};
 
 use super::*;
 use SuperRefusal::*;
+use cs_samples::put_be32 as put;
 use pg_bytes::Range;
 use std::alloc::Global;
 use std::test::Fail;
@@ -22,13 +23,6 @@ fn seat(slot: u32, at: u64, len: u64) -> Seat {
     Seat {
         slot,
         range: Range { at, len },
-    }
-}
-
-/// Writes a number of four bytes.
-fn put(bytes: &mut [u8], at: usize, number: u32) {
-    for (place, byte) in bytes.iter_mut().skip(at).zip(number.to_be_bytes()) {
-        *place = byte;
     }
 }
 
@@ -100,19 +94,28 @@ fn numbers(rt: HostRuntime) -> Result<(), Fail> {
     let first = Some(EntryOut { index: 0 });
     let second = Some(EntryOut { index: 1 });
     for (at, number, expected) in [
+        (0, 0, Some(BadMagic { magic: 0 })),
+        (0, most, Some(BadMagic { magic: 0xffff_ffff })),
+        (4, 0, Some(LengthBad)),
+        (4, 11, Some(LengthBad)),
+        (4, 12, Some(CountBad)),
         (4, 55, second),
         (4, 60, None),
         (4, 61, Some(LengthBad)),
         (4, most, Some(LengthBad)),
+        (8, 0, None),
         (8, 1, None),
         // With five entries the table passes the first blob.
         (8, 5, first),
         (8, 6, Some(CountBad)),
         (8, 0x2000_0000, Some(CountBad)),
+        (8, most, Some(CountBad)),
+        (12, most, None),
         // The same type twice, with both blobs in place.
         (20, 0, Some(Twice { slot: 0 })),
         (12, 0x10000, Some(Twice { slot: 0x10000 })),
         // A place in the table, right behind it, up to the end, and such that a sum of 32 bits would wrap.
+        (16, 0, first),
         (16, 27, first),
         (16, 48, None),
         (16, 49, first),
@@ -121,12 +124,15 @@ fn numbers(rt: HostRuntime) -> Result<(), Fail> {
         (24, most, second),
         (24, 32, None),
         // A blob's own length.
+        (36, 0, first),
         (36, 7, first),
         (36, 8, None),
         (36, 24, None),
         (36, 25, first),
         (36, most, first),
+        (52, 0, second),
         (52, 9, second),
+        (52, most, second),
     ] {
         let mut bytes = SAMPLE;
         put(&mut bytes, at, number);

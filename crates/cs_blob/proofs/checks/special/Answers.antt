@@ -1,7 +1,7 @@
-use Rattle.std.proofs.Common.{sym, ◌∙◌, ◌==◌, arith}
+use Rattle.std.proofs.Common.{sym, ◌∙◌, ◌==◌}
 use Rattle.cs_blob.specs.Parts.{IsWithin}
 use Rattle.cs_blob.proofs.PartsFacts.{All-find}
-use Rattle.cs_blob.proofs.DigestFacts.{special_blobs-none, special_blobs-some}
+use Rattle.cs_blob.proofs.DigestFacts.{Digests-none, Digests-one}
 use Rattle.cs_blob.proofs.checks.special.Goals as goal
 
 pub bytes_in-requires : goal.bytes_in-requires
@@ -9,15 +9,12 @@ bytes_in-requires g c = record { within = (All-find (λ seat. IsWithin c.args.by
 
 pub returns-in_default-clause-digests : goal.returns-in_default-clause-digests
 returns-in_default-clause-digests g c =
-    let same = special_blobs-none c.args.entries.now c.args.slot c.requires.slot c.requires.last (sym c.entry.ensures ∙ c.in_default.is) in
-    omega (arith, same)
+    Digests-none c.args.entries.now c.args.slot _ c.requires.slot c.requires.last (sym c.entry.ensures ∙ c.in_default.is)
 
-pub returns-then-ne-clause-until : goal.returns-then-ne-clause-until
-returns-then-ne-clause-until g c =
-    let more = special_blobs-some c.args.entries.now c.args.slot c.in-Some.seat c.requires.slot c.requires.last (sym c.entry.ensures ∙ c.in-Some.is) in
-    rw c.from-slot.ensures (omega (arith, more, c.hash-digest.ensures.once))
+pub returns-then-ne-clause-digests : goal.returns-then-ne-clause-digests
+returns-then-ne-clause-digests g c =
+    rw c.from-slot.ensures (Digests-one c.args.entries.now c.args.slot _ _ c.in-Some.seat c.requires.slot c.requires.last (sym c.entry.ensures ∙ c.in-Some.is) c.hash-digest.ensures.counted c.hash-digest.ensures.once)
 
 pub returns-clause-digests : goal.returns-clause-digests
 returns-clause-digests g c =
-    let more = special_blobs-some c.args.entries.now c.args.slot c.in-Some.seat c.requires.slot c.requires.last (sym c.entry.ensures ∙ c.in-Some.is) in
-    omega (arith, more, c.hash-digest.ensures.once)
+    Digests-one c.args.entries.now c.args.slot _ _ c.in-Some.seat c.requires.slot c.requires.last (sym c.entry.ensures ∙ c.in-Some.is) c.hash-digest.ensures.counted c.hash-digest.ensures.once

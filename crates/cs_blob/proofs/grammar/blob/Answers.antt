@@ -8,4 +8,4 @@ pub returns-clause-accepted : goal.returns-clause-accepted
 returns-clause-accepted g c =
     let known = rw c.deref.ensures.value at c.in_ok-best.ensures.accepted in
     let code : c.cdhash-cdhash.result ≡ cdhash g.D.Digester.hash (bytes_in c.args.bytes.items c.in_ok-best.best.seat.range) = rw (c.cdhash-cdhash.ensures.value, c.bytes_in.ensures.bytes, c.deref-2.ensures.value) refl in
-    IsSignature-from _ _ _ c.in_ok-best.best _ known code
+    IsSignature-from _ _ _ _ c.in_ok-best.best _ known code

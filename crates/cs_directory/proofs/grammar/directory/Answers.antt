@@ -7,13 +7,13 @@ returns-in_err-framed-clause-refused c =
     let exit = err_from_is_err_and c.from_residual.result c.from_residual.ensures.1 in
     rw (exit.1, exit.2) (broken_by_frame _ _ c.in_err-framed.ensures.tries)
 
-pub returns-in_err-kind-clause-refused : goal.returns-in_err-kind-clause-refused
-returns-in_err-kind-clause-refused c =
-    let exit = err_from_is_err_and c.from_residual-in_err-kind.result c.from_residual-in_err-kind.ensures.1 in
-    rw (exit.1, exit.2) (broken_by_hash _ _ c.in_ok-framed.ensures.tries c.in_err-kind.ensures.tries)
+pub returns-in_err-page-clause-refused : goal.returns-in_err-page-clause-refused
+returns-in_err-page-clause-refused c =
+    let exit = err_from_is_err_and c.from_residual-in_err-page.result c.from_residual-in_err-page.ensures.1 in
+    rw (exit.1, exit.2) (broken_by_hash _ _ c.in_ok-framed.ensures.tries c.in_err-page.ensures.tries)
 
 pub returns-in_err-slots_placed-clause-refused : goal.returns-in_err-slots_placed-clause-refused
 returns-in_err-slots_placed-clause-refused c =
     let exit = err_from_is_err_and c.from_residual-in_err-slots_placed.result c.from_residual-in_err-slots_placed.ensures.1 in
     rw (exit.1, exit.2)
-    (broken_by_slot _ _ c.in_ok-framed.ensures.tries c.in_ok-kind.ensures.tries c.in_err-slots_placed.ensures)
+    (broken_by_slot _ _ c.in_ok-framed.ensures.tries c.in_ok-page.ensures.tries c.in_err-slots_placed.ensures)

@@ -8,13 +8,13 @@ use Rattle.cs_superblob.proofs.grammar.placed.Goals as goal
 pub returns-in_err-placed_entry-clause-refused : goal.returns-in_err-placed_entry-clause-refused
 returns-in_err-placed_entry-clause-refused c =
     let exit = err_from_is_err_and c.from_residual-in_err-placed_entry.result c.from_residual-in_err-placed_entry.ensures.1 in
-    let here = c.in_err-placed_entry.ensures in
-    rw (exit.1, exit.2, here.1) (broken_here _ _ _ c.loop-i.invariant.kept (omega arith) here.0)
+    let here = c.in_err-placed_entry.ensures.out in
+    rw (exit.1, exit.2, here.value) (broken_here _ _ _ c.loop-i.invariant.kept (omega arith) here.outside)
 
 pub loop-i-preserved : goal.loop-i-preserved
 loop-i-preserved c =
-    let here = c.in_ok-placed_entry.ensures in
+    let here = c.in_ok-placed_entry.ensures.placed in
     record {
-      found = rw (c.in_ok-push.ensures.items, c.loop-i.invariant.found, here.1) (sym (map-range_with_len_more (seat_at c.args.bytes.now) 0 c.loop-i.i c.loop-i.i (omega arith)));
-      kept = KeptBelow-next _ _ _ c.loop-i.invariant.kept (omega arith) here.0;
+      found = rw (c.in_ok-push.ensures.items, c.loop-i.invariant.found, here.value) (sym (map-range_with_len_more (seat_at c.args.bytes.now) 0 c.loop-i.i c.loop-i.i (omega arith)));
+      kept = KeptBelow-next _ _ _ c.loop-i.invariant.kept (omega arith) here.inside;
     }

@@ -1,23 +1,23 @@
-use Rattle.std.proofs.Common.{arith}
+use Rattle.std.proofs.Common.{refl, arith}
 use Rattle.cs_directory.proofs.DirectoryFacts.{IsDirectory-along, IsInside-from, code_slot_end, slot_at-fields}
 use Rattle.cs_directory.proofs.code_directory.Directory.slot.Goals as goal
 
-pub overflow_mul-i : goal.overflow_mul-i
-overflow_mul-i c =
+pub overflow_mul-slot : goal.overflow_mul-slot
+overflow_mul-slot c =
     let known = IsDirectory-along _ c.self.view_is c.requires in
     let inside = IsInside-from _ _ known in
     let end = code_slot_end _ _ c.args.i known (omega arith) in
     rw (c.from-size.ensures, c.size.ensures) (omega arith)
 
-pub overflow_add-start : goal.overflow_add-start
-overflow_add-start c =
+pub overflow_add-slot : goal.overflow_add-slot
+overflow_add-slot c =
     let known = IsDirectory-along _ c.self.view_is c.requires in
     let inside = IsInside-from _ _ known in
     let end = code_slot_end _ _ c.args.i known (omega arith) in
     rw (c.from-size.ensures, c.size.ensures) (omega arith)
 
-pub part-requires : goal.part-requires
-part-requires c =
+pub bytes_in-requires : goal.bytes_in-requires
+bytes_in-requires c =
     let known = IsDirectory-along _ c.self.view_is c.requires in
     let inside = IsInside-from _ _ known in
     let end = code_slot_end _ _ c.args.i known (omega arith) in
@@ -26,5 +26,4 @@ part-requires c =
 pub returns-clause-slot : goal.returns-clause-slot
 returns-clause-slot c =
     let known = IsDirectory-along _ c.self.view_is c.requires in
-    let slot = slot_at-fields _ _ c.args.i known in
-    cc
+    rw (c.bytes_in.ensures.bytes, c.from-size.ensures, c.size.ensures, c.from-start.ensures, slot_at-fields _ _ c.args.i known) refl

@@ -1,26 +1,7 @@
-//! Numbers and texts at places that are known to be within the bytes.
+//! Texts at places that are known to be within the bytes.
 
-ghost use Rattle.std.specs.Prelude.{◌≡◌, ◌+◌, ◌≤◌, ◌==◌, length, take, drop, position};
+ghost use Rattle.std.specs.Prelude.{◌≡◌, ◌≤◌, ◌==◌, length, take, drop, position};
 ghost use Rattle.std.specs.List.{before_first};
-ghost use Rattle.pg_bytes.specs.Fields.{be32_at, be64_at};
-
-use pg_bytes::{be32, be64};
-
-/// The big-endian number of the four bytes at `at`.
-pub fn number(bytes: &[u8], at: u64) -> u32
-    requires { at + 4 ≤ length bytes.now }
-    ensures { result ≡ be32_at bytes.now at }
-{
-    be32(bytes, at).unwrap()
-}
-
-/// The big-endian number of the eight bytes at `at`.
-pub fn long_number(bytes: &[u8], at: u64) -> u64
-    requires { at + 8 ≤ length bytes.now }
-    ensures { result ≡ be64_at bytes.now at }
-{
-    be64(bytes, at).unwrap()
-}
 
 /// The first `count` bytes.
 pub fn front(bytes: &[u8], count: u32) -> &[u8]
