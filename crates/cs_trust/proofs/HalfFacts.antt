@@ -4,15 +4,17 @@ use Rattle.std.proofs.lemmas.Bool.{cases_lt, ne_eqb}
 use Rattle.std.proofs.lemmas.Cmp.{nat_list_cmp_total, is_eq_index}
 use Rattle.std.proofs.lemmas.List.Sorted.{searchable_from_sorted}
 use Rattle.std.proofs.Math.Nat.{pow-le-pow_right}
-use Rattle.std.specs.Prelude.{position}
+use Rattle.std.specs.Prelude.{position, IsSorted}
+use Rattle.std.proofs.Math.ListN.{get_or-map, length-map}
+use Rattle.cs_trust.specs.declared.entries.Entry.{Entry}
 use Rattle.std.specs.declared.cmp.Ordering.{Ordering}
 use Rattle.std.specs.declared.cmp.Ordering.TheVariants.{Less, Equal, Greater}
 use Rattle.std.specs.Ordering.{ordering_index, nat_cmp}
 use Rattle.std.specs.Cmp.Lexicographic.{lists_ties}
 use Rattle.std.specs.Cmp.{unsigned_ties}
-use Rattle.cs_trust.specs.Order.{order, is_same, IsTable}
-use Rattle.cs_trust.specs.Listed.{place_of}
-use Rattle.cs_trust.proofs.PlaceFacts.{position_is, position_none}
+use Rattle.cs_trust.specs.Order.{order, is_same, cdhashes_of}
+use Rattle.cs_trust.specs.Listed.{listing, place_of}
+use Rattle.cs_trust.proofs.PlaceFacts.{position_is, position_none, position-mapped}
 
 -- how the entry at a place compares to the cdhash: 0 where it is less, 1 where it is the same, 2 where it is greater
 unfoldable pub rank : List (List ℕ) → List ℕ → ℕ → ℕ
@@ -26,10 +28,27 @@ pub record Halved (entries : List (List ℕ)) (cdhash : List ℕ) (low high : �
   pub before : (k : ℕ) → k < low → rank entries cdhash k ≡ 0
   pub behind : MatchOption found ((k : ℕ) → high ≤ k → k < length entries → rank entries cdhash k ≡ 2) (λ place. (place ≡ high) × (high < length entries) × (rank entries cdhash high ≡ 1))
 
+-- the cdhash of an entry, among all cdhashes
+pub cdhash_at : (entries : List Entry) (k : ℕ) → get_or (cdhashes_of entries) k [] ≡ (get_or entries k (listing [])).cdhash
+cdhash_at entries k = get_or-map (λ (entry : Entry). entry.cdhash) entries k (listing [])
+
+pub length-cdhashes : (entries : List Entry) → length (cdhashes_of entries) ≡ length entries
+length-cdhashes entries = length-map entries (λ (entry : Entry). entry.cdhash)
+
+-- the place of an entry, by the cdhashes alone
+pub place_of-cdhashes : (entries : List Entry) (cdhash : List ℕ) → place_of entries cdhash ≡ position (λ entry. is_same entry cdhash) (cdhashes_of entries)
+unfolding place_of
+place_of-cdhashes entries cdhash = position-mapped (λ entry. entry.cdhash) (λ entry. is_same entry cdhash) entries
+
 -- the rank by what a comparison answers
 pub rank_is : (entries : List (List ℕ)) (cdhash : List ℕ) (k : ℕ) (o : Ordering) → o ≡ order (get_or entries k []) cdhash → rank entries cdhash k ≡ ordering_index o
 unfolding rank
 rank_is entries cdhash k o e = ap ordering_index (sym e)
+
+-- the same, for an entry among others
+pub rank_of : (entries : List Entry) (cdhash : List ℕ) (k : ℕ) (o : Ordering) → o ≡ order (get_or entries k (listing [])).cdhash cdhash → rank (cdhashes_of entries) cdhash k ≡ ordering_index o
+rank_of entries cdhash k o e =
+    rank_is (cdhashes_of entries) cdhash k o (e ∙ ap (λ (x : List ℕ). order x cdhash) (sym (cdhash_at entries k)))
 
 -- the greatest of the three
 index_limit : (o : Ordering) → ordering_index o ≤ 2
@@ -42,9 +61,9 @@ unfolding rank
 rank_limit entries cdhash k = index_limit (order (get_or entries k []) cdhash)
 
 -- the order of a table goes over to how its entries compare
-pub rank_rises : (entries : List (List ℕ)) (cdhash : List ℕ) → IsTable entries → (i j : ℕ) → i ≤ j → j < length entries → rank entries cdhash i ≤ rank entries cdhash j
+pub rank_rises : (entries : List (List ℕ)) (cdhash : List ℕ) → IsSorted order entries → (i j : ℕ) → i ≤ j → j < length entries → rank entries cdhash i ≤ rank entries cdhash j
 unfolding rank
-rank_rises entries cdhash table i j le lt = searchable_from_sorted nat_list_cmp_total (λ x. x) entries cdhash table.sorted i j [] le lt
+rank_rises entries cdhash table i j le lt = searchable_from_sorted nat_list_cmp_total (λ x. x) entries cdhash table i j [] le lt
 
 pub halved_none : (entries : List (List ℕ)) (cdhash : List ℕ) → Halved entries cdhash 0 (length entries) None
 halved_none entries cdhash = record {
@@ -54,7 +73,7 @@ halved_none entries cdhash = record {
   behind = λ k le lt. absurd (omega arith);
 }
 
-pub halved_less : (entries : List (List ℕ)) (cdhash : List ℕ) (low high middle : ℕ) (found : Option ℕ) → IsTable entries → Halved entries cdhash low high found → middle < high → rank entries cdhash middle ≡ 0 → Halved entries cdhash (middle + 1) high found
+pub halved_less : (entries : List (List ℕ)) (cdhash : List ℕ) (low high middle : ℕ) (found : Option ℕ) → IsSorted order entries → Halved entries cdhash low high found → middle < high → rank entries cdhash middle ≡ 0 → Halved entries cdhash (middle + 1) high found
 halved_less entries cdhash low high middle found table known lt less = record {
   ordered = omega arith;
   within = known.within;
@@ -70,7 +89,7 @@ halved_same entries cdhash low high middle found known le lt same = record {
   behind = (refl, omega (arith, known.within), same);
 }
 
-pub halved_greater : (entries : List (List ℕ)) (cdhash : List ℕ) (low high middle : ℕ) (found : Option ℕ) → IsTable entries → Halved entries cdhash low high found → low ≤ middle → middle < high → rank entries cdhash middle ≡ 2 → Halved entries cdhash low middle found
+pub halved_greater : (entries : List (List ℕ)) (cdhash : List ℕ) (low high middle : ℕ) (found : Option ℕ) → IsSorted order entries → Halved entries cdhash low high found → low ≤ middle → middle < high → rank entries cdhash middle ≡ 2 → Halved entries cdhash low middle found
 halved_greater entries cdhash low high middle None table known le lt greater = record {
   ordered = le;
   within = omega (arith, known.within);
@@ -89,8 +108,7 @@ other : (entries : List (List ℕ)) (cdhash : List ℕ) (k : ℕ) → rank entri
 other entries cdhash k differs = same-rank entries cdhash k ∙ ne_eqb (rank entries cdhash k) 1 differs
 
 -- what is found once no place is left
-pub halved_all : (entries : List (List ℕ)) (cdhash : List ℕ) (low high : ℕ) (found : Option ℕ) → Halved entries cdhash low high found → high ≤ low → found ≡ place_of entries cdhash
-unfolding place_of
+pub halved_all : (entries : List (List ℕ)) (cdhash : List ℕ) (low high : ℕ) (found : Option ℕ) → Halved entries cdhash low high found → high ≤ low → found ≡ position (λ entry. is_same entry cdhash) entries
 halved_all entries cdhash low high None known done =
     sym (position_none (λ entry. is_same entry cdhash) entries []
     (λ k lt. other entries cdhash k (⊎_elim (λ below. let less = known.before k below in λ same. omega arith) (λ above. let greater = known.behind k (omega (arith, known.ordered)) lt in λ same. omega arith) (cases_lt k low))))
@@ -106,6 +124,7 @@ pub record Costs (before now width n : ℕ) : Type 0 where
   pub later : before ≤ now
   pub halved : 2 ^ (now - before) * width ≤ n
   pub bounded : 2 ^ (now - before) ≤ 2 * n + 1
+  pub counted : width < n → before < now
 
 pub costs_none : (before n : ℕ) → Costs before before n n
 costs_none before n =
@@ -114,6 +133,7 @@ costs_none before n =
       later = omega arith;
       halved = rw none (omega arith);
       bounded = rw none (omega arith);
+      counted = λ lt. absurd (omega arith);
     }
 
 -- twice as many steps' worth of half of what was left
@@ -133,6 +153,7 @@ costs_more before now width less n known some half =
       later = omega (arith, known.later);
       halved = rw (one_more, twice) after.0;
       bounded = rw (one_more, twice) after.1;
+      counted = λ lt. omega (arith, known.later);
     }
 
 -- a number of steps, by what two to its power is below

@@ -1,3 +1,4 @@
 pub mod PlaceFacts
 pub mod HalfFacts
 pub mod RuleFacts
+pub mod CountFacts

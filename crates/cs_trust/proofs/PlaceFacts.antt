@@ -1,8 +1,9 @@
 -- The first place of a list that passes a test.
-use Rattle.std.proofs.Common.{◌≡◌, ℕ, ◌<◌, Bool, true, false, List, length, get_or, Some, None, refl, ⊎_elim, arith}
+use Rattle.std.proofs.Common.{◌≡◌, ℕ, ◌<◌, ◌+◌, Bool, true, false, not, cond, List, [], ◌∷◌, map, length, get_or, Some, None, refl, ap, ⊎_elim, arith}
 use Rattle.std.proofs.lemmas.Bool.{cases_lt, lt-ltb, le-ltb}
 use Rattle.std.proofs.lemmas.List.Sums.{position_or_len_is, fails_before_first}
 use Rattle.std.specs.Prelude.{position}
+use Rattle.std.proofs.Math.ListN.{length-map}
 use Rattle.std.specs.List.{position_or_len}
 
 -- a place that passes, where none before it does
@@ -26,3 +27,11 @@ position_fails p xs none k d lt =
     absurd cc)
     (λ past. fails_before_first p xs k d (omega arith))
     (cases_lt (position_or_len p xs) (length xs))
+
+-- the first place of mapped elements, by the elements
+mapped_len : {X Y : Type 0} (f : X → Y) (p : Y → Bool) (xs : List X) → position_or_len (λ x. p (f x)) xs ≡ position_or_len p (map f xs)
+mapped_len f p [] = refl
+mapped_len f p (x ∷ xs) = ap (λ rest. cond (not (p (f x))) (1 + rest) 0) (mapped_len f p xs)
+
+pub position-mapped : {X Y : Type 0} (f : X → Y) (p : Y → Bool) (xs : List X) → position (λ x. p (f x)) xs ≡ position p (map f xs)
+position-mapped f p xs = rw (mapped_len f p xs, length-map xs f) refl

@@ -1,9 +1,11 @@
--- The layout of a trust cache of version 1: a header of 24 bytes, and entries of 22 bytes. Each number has its
--- least byte first.
--- Source: `trust_cache_module1` in XNU's `trustcache.h`.
-use Rattle.std.specs.Prelude.{ℕ, ◌+◌, ◌*◌, List, take, drop, map}
+-- The layout of a trust cache: a header of 24 bytes, and entries of 22 bytes in version 1 and of 24 in version 2. Each
+-- number has its least byte first.
+-- Source: `trust_cache_module1` in XNU's `trustcache.h` for version 1. The layout of version 2 is this repository's own.
+use Rattle.std.specs.Prelude.{ℕ, ◌+◌, ◌*◌, List, take, drop, map, slice_index, Option, Some, None, ◌==◌, if◌then◌else◌}
 use Rattle.std.specs.List.{range_with_len}
 use Rattle.pg_bytes.specs.Fields.{le32_at}
+use Rattle.cs_trust.specs.declared.entries.Entry.{Entry}
+use Rattle.cs_trust.specs.declared.entries.More.{More}
 
 -- the version of the layout
 abbrev pub version : List ℕ → ℕ
@@ -13,14 +15,29 @@ version bytes = le32_at bytes 0
 abbrev pub count : List ℕ → ℕ
 count bytes = le32_at bytes 20
 
--- how many bytes a trust cache of so many entries has
-abbrev pub size_of : ℕ → ℕ
-size_of count = 24 + 22 * count
+-- where the entry at a place, counted from 0, begins in a version, and where so many entries end
+abbrev pub entry_place : ℕ → ℕ → ℕ
+entry_place version place = if version == 2 then 24 + 24 * place else 24 + 22 * place
 
--- the cdhash of the entry at a place, counted from 0: its first 20 bytes. A hash type and flags stand behind.
-abbrev pub cdhash_at : List ℕ → ℕ → List ℕ
-cdhash_at bytes place = take 20 (drop (24 + 22 * place) bytes)
+-- what stands behind the first 22 bytes of an entry: a category and a reserved byte in version 2, and nothing in
+-- version 1
+abbrev pub more_at : ℕ → List ℕ → ℕ → Option More
+more_at version bytes at =
+    if version == 2 then Some (record { category = slice_index bytes at; reserved = slice_index bytes (at + 1) }) else None
 
--- the cdhashes of all entries, in the order of the file
-unfoldable pub cdhashes : List ℕ → List (List ℕ)
-cdhashes bytes = map (cdhash_at bytes) (range_with_len 0 (count bytes))
+-- the entry that begins at a byte: its cdhash of 20 bytes, the number of its hash type, and its flags
+abbrev pub entry_from : List ℕ → ℕ → Entry
+entry_from bytes at = record {
+  cdhash = take 20 (drop at bytes);
+  hash_type = slice_index bytes (at + 20);
+  flags = slice_index bytes (at + 21);
+  more = more_at (version bytes) bytes (at + 22);
+}
+
+-- the entry at a place, counted from 0
+unfoldable pub entry_at : List ℕ → ℕ → Entry
+entry_at bytes place = entry_from bytes (entry_place (version bytes) place)
+
+-- all entries, in the order of the file
+unfoldable pub entries : List ℕ → List Entry
+entries bytes = map (entry_at bytes) (range_with_len 0 (count bytes))

@@ -14,7 +14,7 @@ pub enum TrustRefusal {
     /// There are fewer bytes than the header has, 24.
     #[error("too short for a trust cache")]
     Short,
-    /// The version `v` is not 1.
+    /// The version `v` is neither 1 nor 2.
     #[error("version {v} is not known")]
     Version { v: u64 },
     /// The bytes are not as many as the header and the number of entries that it gives.
@@ -73,11 +73,13 @@ impl From<TrustRefusal> for Refusal {
 }
 
 /// Why no module was made of bytes.
-#[derive(Clone, Copy, Debug, PartialEq, Eq)]
+#[derive(Clone, Copy, Debug, PartialEq, Eq, Error)]
 pub enum TrustFail {
     /// The bytes are no trust cache.
+    #[error(transparent)]
     Refused(TrustRefusal),
     /// Memory ran out.
+    #[error("out of memory")]
     NoMemory,
 }
 

@@ -3,6 +3,7 @@
 ghost use Rattle.std.specs.Prelude.{◌≡◌, ◌+◌, ◌^◌, ◌<◌};
 ghost use Rattle.cs_trust.specs.Order as cdhashes;
 
+use crate::entries::Entry;
 use pg_bytes::Steps;
 use std::cmp::Ordering;
 use std::sync::ledger::Ledger;
@@ -22,12 +23,12 @@ impl<'a> Sought<'a> {
     }
 
     /// How an entry's cdhash compares to the one that is looked for.
-    pub fn compare<L: Ledger>(&self, entry: &[u8; 20], steps: &mut Steps<L>) -> Ordering
+    pub fn compare<L: Ledger>(&self, entry: &Entry, steps: &mut Steps<L>) -> Ordering
         requires { steps.old < 2 ^ 63 }
-        ensures order { result ≡ cdhashes.order entry.now self.now.cdhash.now }
+        ensures order { result ≡ cdhashes.order entry.now.cdhash self.now.cdhash.now }
         ensures step { steps.new ≡ steps.old + 1 }
     {
         steps.tick();
-        entry.cmp(self.cdhash)
+        entry.cdhash.cmp(self.cdhash)
     }
 }

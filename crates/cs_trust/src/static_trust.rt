@@ -1,7 +1,7 @@
 //! The modules that are trusted from the start.
 
 ghost use Rattle.std.specs.Prelude.{◌≡◌, ◌+◌, ◌*◌, ◌^◌, ◌<◌, ◌≤◌, length, vec_len};
-ghost use Rattle.cs_trust.specs.Listed.{listed};
+ghost use Rattle.cs_trust.specs.Listed.{listed, searched, filled};
 
 use crate::trust_module::Module;
 use pg_bytes::Steps;
@@ -15,9 +15,10 @@ pub struct StaticTrust {
 }
 
 impl Model for StaticTrust {
-    ghost use Rattle.std.specs.Prelude.{List, ℕ, length, ◌<◌, ◌^◌};
+    ghost use Rattle.std.specs.Prelude.{List, length, ◌<◌, ◌^◌};
+    ghost use Rattle.cs_trust.specs.Listed.{Table};
 
-    ghost Value = { List (List (List ℕ)) };
+    ghost Value = { List Table };
 
     ghost view = { λ s. s.modules.items };
 
@@ -52,13 +53,15 @@ impl StaticTrust {
     }
 
     /// The least module that lists the cdhash, and in it the least place, both counted from 0; `None` exactly
-    /// where no entry of any module has it. A step is one entry compared, and a module takes at most 17. The
-    /// steps counted before the call are below 2^61.
+    /// where no entry of any module has it. A step is one entry compared: a module takes at most 17, and each that
+    /// has an entry and is searched, up to the one of the answer, takes one at least. The steps counted before the call
+    /// are below 2^61.
     pub fn find<L: Ledger>(&self, cdhash: &[u8; 20], steps: &mut Steps<L>) -> Option<(u32, u64)>
         requires room { steps.old < 2 ^ 61 }
         ensures place { result ≡ listed self.now cdhash.now }
         ensures cost { steps.new ≤ steps.old + 17 * length self.now }
         ensures later { steps.old ≤ steps.new }
+        ensures counted { steps.old + filled (searched self.now result) ≤ steps.new }
     {
         for (number, module) in self.modules.iter().enumerate() {
             if let Some(place) = module.find(cdhash, steps) {

@@ -2,24 +2,12 @@ ghost use Rattle.std.specs.Prelude.{◌≡◌, ◌<◌, ◌≤◌, length};
 
 use super::*;
 use TrustRefusal::*;
+use cs_samples::{SIGNATURE_CDHASH as C, TRUST_CACHE, put};
 use pg_bytes::Steps;
 use std::alloc::Global;
 use std::marker::Brand;
 use std::sync::ledger::{Blank, Ledger};
 use std::test::Fail;
-
-/// The cdhash of a code directory of 192 bytes, which a linker signed ad hoc.
-const C: [u8; 20] = [
-    0xbb, 0x25, 0x76, 0xd3, 0xb1, 0x41, 0x0f, 0x65, 0x8d, 0x4d, 0x91, 0x74, 0xe4, 0x04, 0x56, 0xb4,
-    0x0d, 0x79, 0xc5, 0x96,
-];
-
-/// A trust cache with this one entry, of hash type 2 and without flags.
-const ONE_ENTRY_CACHE: [u8; 46] = [
-    0x01, 0x00, 0x00, 0x00, 0x00, 0x00, 0x00, 0x00, 0x00, 0x00, 0x00, 0x00, 0x00, 0x00, 0x00, 0x00,
-    0x00, 0x00, 0x00, 0x00, 0x01, 0x00, 0x00, 0x00, 0xbb, 0x25, 0x76, 0xd3, 0xb1, 0x41, 0x0f, 0x65,
-    0x8d, 0x4d, 0x91, 0x74, 0xe4, 0x04, 0x56, 0xb4, 0x0d, 0x79, 0xc5, 0x96, 0x02, 0x00,
-];
 
 /// Its last byte alone differs from that of `C`.
 const D: [u8; 20] = [
@@ -40,7 +28,7 @@ fn text(
     bytes.extend_from_slice(&count.to_le_bytes())?;
     for entry in entries {
         bytes.extend_from_slice(entry)?;
-        // The hash type and the flags have no effect.
+        // The hash type and the flags.
         bytes.extend_from_slice(&[2, 0])?;
     }
     Ok(bytes)
@@ -112,7 +100,8 @@ fn numbers(rt: HostRuntime) -> Result<(), Fail> {
     for (version, count, expected) in [
         (1, 2, None),
         (0, 2, Some(Version { v: 0 })),
-        (2, 2, Some(Version { v: 2 })),
+        (2, 2, Some(LengthBad)),
+        (3, 2, Some(Version { v: 3 })),
         (0x0100_0000, 2, Some(Version { v: 0x0100_0000 })),
         (u32::MAX, 65_537, Some(Version { v: 0xffff_ffff })),
         (1, 0, Some(LengthBad)),
@@ -153,7 +142,7 @@ fn one_entry_text(
 #[test]
 fn fields_at_their_bounds(rt: HostRuntime) -> Result<(), Fail> {
     let sample = one_entry_text(rt.alloc(), 1, 0, 1, 2, 0)?;
-    assert_eq!(rt; sample.as_slice(), ONE_ENTRY_CACHE.as_slice());
+    assert_eq!(rt; sample.as_slice(), TRUST_CACHE.as_slice());
     for (version, uuid, count, hash_type, flags, expected) in [
         (1, 0x00, 1, 2, 0, Ok(Some(0))),
         (1, 0xff, 1, 2, 0, Ok(Some(0))),
@@ -162,7 +151,8 @@ fn fields_at_their_bounds(rt: HostRuntime) -> Result<(), Fail> {
         (1, 0x00, 1, 2, 255, Ok(Some(0))),
         (1, 0xff, 1, 255, 255, Ok(Some(0))),
         (0, 0x00, 1, 2, 0, Err(Version { v: 0 })),
-        (2, 0x00, 1, 2, 0, Err(Version { v: 2 })),
+        (2, 0x00, 1, 2, 0, Err(LengthBad)),
+        (3, 0x00, 1, 2, 0, Err(Version { v: 3 })),
         (u32::MAX, 0x00, 1, 2, 0, Err(Version { v: 0xffff_ffff })),
         (1, 0x00, 0, 2, 0, Err(LengthBad)),
         (1, 0x00, u32::MAX, 2, 0, Err(TooMany)),
@@ -174,6 +164,60 @@ fn fields_at_their_bounds(rt: HostRuntime) -> Result<(), Fail> {
         place_in(rt.alloc(), &text(rt.alloc(), 1, 0, &[])?)?,
         Ok(None)
     );
+    Ok(())
+}
+
+/// The trust cache of one entry in the layout of version 2.
+fn second_version(alloc: Global) -> Result<Vec<u8>, NoMemory> {
+    let mut bytes = TRUST_CACHE.to_vec(alloc)?;
+    put(&mut bytes, 0, &[2]);
+    bytes.extend_from_slice(&[0xa1, 0xb2])?;
+    Ok(bytes)
+}
+
+#[test]
+fn whole_entries(rt: HostRuntime) -> Result<(), Fail> {
+    let first = module(rt.alloc(), &TRUST_CACHE)?;
+    let entry = Entry {
+        cdhash: C,
+        hash_type: 2,
+        flags: 0,
+        more: None,
+    };
+    assert_eq!(rt; first.entries(), [entry].as_slice());
+    let bytes = second_version(rt.alloc())?;
+    assert_eq!(rt; bytes.len(), 48);
+    let second = module(rt.alloc(), &bytes)?;
+    let more = Some(More {
+        category: 0xa1,
+        reserved: 0xb2,
+    });
+    assert_eq!(rt; second.entries(), [Entry { more, ..entry }].as_slice());
+    assert_eq!(rt; second.look(&C), Some(0));
+    assert_eq!(rt; second.look(&D), None);
+    Ok(())
+}
+
+#[test]
+fn second_version_cut(rt: HostRuntime) -> Result<(), Fail> {
+    let mut bytes = second_version(rt.alloc())?;
+    assert_eq!(rt; bytes.len(), 48);
+    for length in 0..48 {
+        let expected = if length < 24 { Short } else { LengthBad };
+        assert_eq!(rt;
+            refusal(rt.alloc(), &bytes[..length])?,
+            Some(expected),
+            "{length} bytes"
+        );
+    }
+    put(&mut bytes, 0, &[3]);
+    for length in 24..48 {
+        assert_eq!(rt;
+            refusal(rt.alloc(), &bytes[..length])?,
+            Some(Version { v: 3 }),
+            "{length} bytes"
+        );
+    }
     Ok(())
 }
 

@@ -2,8 +2,9 @@
 
 ghost use Rattle.std.specs.Prelude.{◌≡◌, ◌+◌, ◌-◌, ◌*◌, ◌^◌, ◌<◌, ◌≤◌, ◌↔◌, [], ◌∷◌, length, IfOk, IsTrue};
 ghost use Rattle.cs_trust.specs.Order.{IsTable};
-ghost use Rattle.cs_trust.specs.Listed.{place_of};
+ghost use Rattle.cs_trust.specs.Listed.{listing, place_of};
 
+use crate::entries::Entry;
 use crate::refusal::NoMemory;
 use crate::search::halve;
 use crate::sought::Sought;
@@ -15,18 +16,19 @@ use std::sync::ledger::{Blank, Ledger};
 /// The most entries that a trust cache can have.
 pub const MAX_ENTRIES: u32 = 65_536;
 
-/// A trust cache, seen as the list of its entries' cdhashes, of 20 bytes each, sorted by their bytes. What
-/// else stands in an entry has no effect and is not kept.
+/// A trust cache, seen as the list of its entries, sorted by the bytes of their cdhashes. What else stands in an entry is
+/// kept and has no effect.
 #[derive(Debug, Drop)]
 pub struct Module {
-    entries: Vec<[u8; 20]>,
+    entries: Vec<Entry>,
 }
 
 impl Model for Module {
-    ghost use Rattle.std.specs.Prelude.{List, ℕ};
+    ghost use Rattle.std.specs.Prelude.{List};
+    ghost use Rattle.cs_trust.specs.declared.entries.Entry.{Entry};
     ghost use Rattle.cs_trust.specs.Order.{IsTable};
 
-    ghost Value = { List (List ℕ) };
+    ghost Value = { List Entry };
 
     ghost view = { λ m. m.entries.items };
 
@@ -45,20 +47,34 @@ fn look_over<L: Ledger>(blank: Blank, entries: &Module, cdhash: &[u8; 20]) -> Op
 
 impl Module {
     /// A module of these entries.
-    pub(crate) fn of(entries: Vec<[u8; 20]>) -> Module
+    pub(crate) fn of(entries: Vec<Entry>) -> Module
         requires { IsTable entries.items }
         ensures { result ≡ entries.items }
     {
         Module { entries }
     }
 
-    /// The module that lists one cdhash. `NoMemory` comes where there is no memory for its one entry.
+    /// The module that lists one cdhash, in an entry of version 1 whose hash type and flags are 0. `NoMemory` comes where
+    /// there is no memory for it.
     pub fn one(alloc: Global, cdhash: [u8; 20]) -> Result<Module, NoMemory>
-        ensures { IfOk result (λ made. made ≡ cdhash ∷ []) }
+        ensures { IfOk result (λ made. made ≡ listing cdhash ∷ []) }
     {
+        let entry = Entry {
+            cdhash,
+            hash_type: 0,
+            flags: 0,
+            more: None,
+        };
         Ok(Module {
-            entries: vec![in alloc; cdhash]?,
+            entries: vec![in alloc; entry]?,
         })
+    }
+
+    /// The entries, in their order.
+    pub fn entries(&self) -> &[Entry]
+        ensures { result.now ≡ self.now }
+    {
+        &self.entries
     }
 
     /// How many entries there are: at most 65,536. They are in order, and a cdhash may stand several times.
@@ -78,14 +94,15 @@ impl Module {
     }
 
     /// The least place, counted from 0, that has the cdhash, or `None` exactly where no entry has it. A step
-    /// is one entry compared: two to the power of the steps is at most 2n + 1 for n entries. The steps counted
-    /// before the call are below 2^62.
+    /// is one entry compared: two to the power of the steps is at most 2n + 1 for n entries, and there is one at
+    /// least where there is an entry. The steps counted before the call are below 2^62.
     pub fn find<L: Ledger>(&self, cdhash: &[u8; 20], steps: &mut Steps<L>) -> Option<u64>
         requires room { steps.old < 2 ^ 62 }
         ensures place { result ≡ place_of self.now cdhash.now }
         ensures cost { 2 ^ (steps.new - steps.old) ≤ 2 * length self.now + 1 }
         ensures at_most { steps.new ≤ steps.old + 17 }
         ensures later { steps.old ≤ steps.new }
+        ensures counted { 0 < length self.now → steps.old < steps.new }
     {
         let place = halve(&self.entries, &Sought::new(cdhash), steps)?;
         Some(place as u64)

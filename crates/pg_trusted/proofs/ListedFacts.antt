@@ -3,8 +3,8 @@ use Rattle.std.proofs.Common.{◌≡◌, ℕ, ◌+◌, ◌<◌, List, [], ◌∷
 use Rattle.std.proofs.lemmas.List.{drop_more}
 use Rattle.std.specs.Option.{option_map, option_map_or}
 use Rattle.cs_policy.specs.declared.refusal.Refusal.{Refusal}
-use Rattle.cs_trust.specs.Listed.{place_of, listed, listed_from}
-use Rattle.pg_trusted.specs.TrustStep.{Table, cache_at}
+use Rattle.cs_trust.specs.Listed.{Table, place_of, listed, listed_from}
+use Rattle.pg_trusted.specs.TrustStep.{cache_at}
 use Rattle.pg_trusted.specs.Kept.{entries_of, tables_of}
 
 -- what is found in modules whose numbers are so much higher
@@ -16,7 +16,7 @@ one_shifted : (by next : ℕ) (place : Option ℕ) (x y : Option (ℕ × ℕ)) �
 one_shifted by next None x y e = e
 one_shifted by next (Some p) x y e = refl
 
-listed_shifted : (by next : ℕ) (modules : List (List (List ℕ))) (cdhash : List ℕ) → listed_from (by + next) modules cdhash ≡ shifted by (listed_from next modules cdhash)
+listed_shifted : (by next : ℕ) (modules : List Table) (cdhash : List ℕ) → listed_from (by + next) modules cdhash ≡ shifted by (listed_from next modules cdhash)
 listed_shifted by next [] cdhash = refl
 listed_shifted by next (entries ∷ modules) cdhash =
     one_shifted by next (place_of entries cdhash) (listed_from (by + next + 1) modules cdhash) (listed_from (next + 1) modules cdhash)
@@ -26,7 +26,7 @@ one_joined : (next : ℕ) (place : Option ℕ) (x y z : Option (ℕ × ℕ)) →
 one_joined next None x y z e = e
 one_joined next (Some p) x y z e = refl
 
-listed_joined : (next : ℕ) (xs ys : List (List (List ℕ))) (cdhash : List ℕ) → listed_from next (xs ++ ys) cdhash ≡ option_map_or Some (listed_from next xs cdhash) (listed_from (next + length xs) ys cdhash)
+listed_joined : (next : ℕ) (xs ys : List Table) (cdhash : List ℕ) → listed_from next (xs ++ ys) cdhash ≡ option_map_or Some (listed_from next xs cdhash) (listed_from (next + length xs) ys cdhash)
 listed_joined next [] ys cdhash = ap (λ n. listed_from n ys cdhash) (omega arith)
 listed_joined next (entries ∷ xs) ys cdhash =
     one_joined next (place_of entries cdhash) (listed_from (next + 1) (xs ++ ys) cdhash) (listed_from (next + 1) xs cdhash) (listed_from (next + length (entries ∷ xs)) ys cdhash)
@@ -34,13 +34,13 @@ listed_joined next (entries ∷ xs) ys cdhash =
     ∙ ap (λ n. option_map_or Some (listed_from (next + 1) xs cdhash) (listed_from n ys cdhash)) (omega arith))
 
 -- what is listed in the first row is listed there in both
-pub listed_first : (xs ys : List (List (List ℕ))) (cdhash : List ℕ) (found : ℕ × ℕ) → Some found ≡ listed xs cdhash → listed (xs ++ ys) cdhash ≡ Some found
+pub listed_first : (xs ys : List Table) (cdhash : List ℕ) (found : ℕ × ℕ) → Some found ≡ listed xs cdhash → listed (xs ++ ys) cdhash ≡ Some found
 listed_first xs ys cdhash found e =
     listed_joined 0 xs ys cdhash
     ∙ ap (λ o. option_map_or Some o (listed_from (0 + length xs) ys cdhash)) (sym e)
 
 -- what is not listed in the first row is listed where the second lists it, behind the modules of the first
-pub listed_second : (xs ys : List (List (List ℕ))) (cdhash : List ℕ) (found : Option (ℕ × ℕ)) → None ≡ listed xs cdhash → found ≡ listed ys cdhash → listed (xs ++ ys) cdhash ≡ option_map (λ f. (length xs + f.0, f.1)) found
+pub listed_second : (xs ys : List Table) (cdhash : List ℕ) (found : Option (ℕ × ℕ)) → None ≡ listed xs cdhash → found ≡ listed ys cdhash → listed (xs ++ ys) cdhash ≡ option_map (λ f. (length xs + f.0, f.1)) found
 listed_second xs ys cdhash found none e =
     listed_joined 0 xs ys cdhash
     ∙ (ap (λ o. option_map_or Some o (listed_from (0 + length xs) ys cdhash)) (sym none)
@@ -49,7 +49,7 @@ listed_second xs ys cdhash found none e =
     ∙ ap (shifted (length xs)) (sym e))))
 
 -- an empty module lists nothing
-pub place_of_empty : (entries : List (List ℕ)) (cdhash : List ℕ) → entries ≡ [] → place_of entries cdhash ≡ None
+pub place_of_empty : (entries : Table) (cdhash : List ℕ) → entries ≡ [] → place_of entries cdhash ≡ None
 unfolding place_of
 place_of_empty entries cdhash e =
     let none : place_of [] cdhash ≡ None = refl in

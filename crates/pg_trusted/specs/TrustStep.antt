@@ -1,15 +1,11 @@
 -- The plain step of the trust list: what it answers to an event, and what it is then.
 use Rattle.std.specs.Prelude.{ℕ, List, [], ◌∷◌, ◌++◌, length, Option, Some, None, Result, Ok, Err, slice_index_or, nat_lt, if◌then◌else◌}
-use Rattle.cs_trust.specs.Listed.{listed}
+use Rattle.cs_trust.specs.Listed.{Table, listed}
 use Rattle.cs_policy.specs.declared.refusal.Refusal.{Refusal}
 use Rattle.cs_policy.specs.declared.trust.TrustEvent.{TrustEvent}
 use Rattle.cs_policy.specs.declared.trust.TrustEvent.TheVariants.{LoadModule, Lookup}
 use Rattle.cs_policy.specs.declared.trust.TrustReply.{TrustReply}
 use Rattle.cs_policy.specs.declared.trust.TrustReply.TheVariants.{Refused, Full, Loaded, Listed, Unlisted}
-
--- a module: the cdhashes of its entries
-abbrev pub Table : Type 0
-Table = List (List ℕ)
 
 -- The static modules, each declared cache as the module or the refusal of its bytes, and the modules that were
 -- loaded, in the order of loading.

@@ -1,23 +1,11 @@
 use super::*;
 use TrustReply::*;
 use cs_policy::{Refusal, TRUST_FAMILY, TrustReply};
+use cs_samples::{SIGNATURE_CDHASH as C, TRUST_CACHE, put};
 use cs_trust::{Module, StaticTrust, TrustFail, module};
 use std::alloc::Global;
 use std::sync::Arc;
 use std::test::Fail;
-
-/// The cdhash of a code directory of 192 bytes, which a linker signed ad hoc.
-const C: [u8; 20] = [
-    0xbb, 0x25, 0x76, 0xd3, 0xb1, 0x41, 0x0f, 0x65, 0x8d, 0x4d, 0x91, 0x74, 0xe4, 0x04, 0x56, 0xb4,
-    0x0d, 0x79, 0xc5, 0x96,
-];
-
-/// A trust cache with this one entry, of hash type 2 and without flags.
-const ONE_ENTRY_CACHE: [u8; 46] = [
-    0x01, 0x00, 0x00, 0x00, 0x00, 0x00, 0x00, 0x00, 0x00, 0x00, 0x00, 0x00, 0x00, 0x00, 0x00, 0x00,
-    0x00, 0x00, 0x00, 0x00, 0x01, 0x00, 0x00, 0x00, 0xbb, 0x25, 0x76, 0xd3, 0xb1, 0x41, 0x0f, 0x65,
-    0x8d, 0x4d, 0x91, 0x74, 0xe4, 0x04, 0x56, 0xb4, 0x0d, 0x79, 0xc5, 0x96, 0x02, 0x00,
-];
 
 const D: [u8; 20] = [0xd2; 20];
 
@@ -75,7 +63,7 @@ fn refused(number: u8, a: u64) -> TrustReply {
 fn refused_caches(rt: HostRuntime) -> Result<(), Fail> {
     let fixed = Arc::new(rt.alloc(), StaticTrust::new(Vec::new(rt.alloc())))?;
     let caches = vec![in rt.alloc();
-        declared(rt.alloc(), &ONE_ENTRY_CACHE[..45])?,
+        declared(rt.alloc(), &TRUST_CACHE[..45])?,
         declared(rt.alloc(), &text(rt.alloc(), &[D, C])?)?,
     ]?;
     let mut list = Trusted::open(rt.alloc(), fixed, caches)?;
@@ -86,9 +74,39 @@ fn refused_caches(rt: HostRuntime) -> Result<(), Fail> {
 }
 
 #[test]
+fn caches_of_version_2(rt: HostRuntime) -> Result<(), Fail> {
+    let mut bytes = TRUST_CACHE.to_vec(rt.alloc())?;
+    put(&mut bytes, 0, &[2]);
+    bytes.extend_from_slice(&[0, 0])?;
+    assert_eq!(rt; bytes.len(), 48);
+    let most = bytes.len().saturating_sub(1);
+    let cut = declared(rt.alloc(), &bytes.as_slice()[..most])?;
+    let fixed = Arc::new(rt.alloc(), StaticTrust::new(Vec::new(rt.alloc())))?;
+    let mut third = [0; 24];
+    third[0] = 3;
+    let caches = vec![in rt.alloc();
+        cut,
+        declared(rt.alloc(), &third)?,
+        declared(rt.alloc(), &bytes)?,
+    ]?;
+    let mut list = Trusted::open(rt.alloc(), fixed, caches)?;
+    assert_eq!(rt; list.load(0), refused(3, 0));
+    assert_eq!(rt; list.load(1), refused(2, 3));
+    assert_eq!(rt; list.load(2), Loaded { module: 0 });
+    assert_eq!(rt;
+        list.lookup(&C),
+        Listed {
+            module: 0,
+            place: 0
+        }
+    );
+    Ok(())
+}
+
+#[test]
 fn one_cache_many_times(rt: HostRuntime) -> Result<(), Fail> {
     let fixed = Arc::new(rt.alloc(), StaticTrust::new(Vec::new(rt.alloc())))?;
-    let caches = vec![in rt.alloc(); declared(rt.alloc(), &ONE_ENTRY_CACHE)?]?;
+    let caches = vec![in rt.alloc(); declared(rt.alloc(), &TRUST_CACHE)?]?;
     let mut list = Trusted::open(rt.alloc(), fixed, caches)?;
     for module in 0..64 {
         assert_eq!(rt; list.load(0), Loaded { module });
@@ -109,7 +127,7 @@ fn static_before_loaded(rt: HostRuntime) -> Result<(), Fail> {
     let modules = vec![in rt.alloc(); Module::one(rt.alloc(), C)?]?;
     let fixed = Arc::new(rt.alloc(), StaticTrust::new(modules))?;
     let caches = vec![in rt.alloc();
-        declared(rt.alloc(), &ONE_ENTRY_CACHE)?,
+        declared(rt.alloc(), &TRUST_CACHE)?,
         declared(rt.alloc(), &text(rt.alloc(), &[C, D, D])?)?,
     ]?;
     let mut list = Trusted::open(rt.alloc(), fixed, caches)?;

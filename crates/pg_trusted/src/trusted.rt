@@ -2,10 +2,11 @@
 
 ghost use Rattle.std.specs.Prelude.{◌≡◌, ◌<◌, ◌≤◌, [], length, IfOk, IfSome, MatchOption};
 ghost use Rattle.std.specs.Arc.{arc_value};
+ghost use Rattle.std.specs.Option.{option_copied};
 ghost use Rattle.cs_trust.specs.Listed.{listed};
 ghost use Rattle.cs_policy.specs.declared.trust.TrustEvent.TheVariants.{LoadModule, Lookup};
 ghost use Rattle.pg_trusted.specs.TrustStep.{cache_at, trust_step};
-ghost use Rattle.pg_trusted.specs.Kept.{entries_of, tables_of};
+ghost use Rattle.pg_trusted.specs.Kept.{entries_of, tables_of, IsTableOf, opened};
 
 use cs_policy::{Refusal, TrustReply};
 use cs_trust::{Module, StaticTrust};
@@ -42,7 +43,7 @@ impl Model for Trusted {
 
 /// The module of a cache; `None` where the cache was refused or is not declared, and so lists nothing.
 fn module_of(caches: &[Result<Module, Refusal>], cache: u32) -> Option<&Module>
-    ensures { MatchOption result (entries_of (cache_at caches.now cache) ≡ []) (λ found. found.now ≡ entries_of (cache_at caches.now cache)) }
+    ensures { IsTableOf (entries_of (cache_at caches.now cache)) (option_copied result) }
 {
     let cache = cache as usize;
     if cache >= caches.len() {
@@ -83,7 +84,7 @@ impl Trusted {
         fixed: Arc<StaticTrust>,
         caches: Vec<Result<Module, Refusal>>,
     ) -> Result<Trusted, NoMemory>
-        ensures { IfOk result (λ list. list ≡ record { fixed = arc_value fixed; caches = caches.items; loaded = [] }) }
+        ensures { IfOk result (λ list. list ≡ opened (arc_value fixed) caches.items) }
     {
         Ok(Trusted {
             loaded: Vec::with_capacity(alloc, MAX_LOADED as usize)?,
