@@ -7,10 +7,10 @@ ghost use Rattle.pg_bytes.specs.Rules.{Tries};
 ghost use Rattle.macho_cmds.specs.Rules.{HasCommands, rules_of, is_bad, maps_wrongly, signature_among};
 ghost use Rattle.macho_cmds.specs.Commands.{IsCommand};
 
-use crate::numbers::{long_number, name, number};
+use crate::names::name;
 use crate::refusal::MachRefusal;
 use crate::segment::Segment;
-use pg_bytes::Range;
+use pg_bytes::{Range, le32_at, le64_at};
 
 /// The kind of a load command that maps a segment, LC_SEGMENT_64.
 pub const SEGMENT: u32 = 0x19;
@@ -32,7 +32,7 @@ pub fn commands_end(bytes: &[u8]) -> u64
     requires { 32 ≤ length bytes.now }
     ensures { result ≡ layout.commands_end bytes.now }
 {
-    32 + u64::from(number(bytes, 20))
+    32 + u64::from(le32_at(bytes, 20))
 }
 
 /// Load command `index`, which begins at `at`, or the refusal where it breaks a rule. `signed` says whether one before
@@ -70,8 +70,8 @@ fn whole_command(bytes: &[u8], at: u64) -> Option<Command>
     if at + 8 > end {
         return None;
     }
-    let kind = number(bytes, at);
-    let size = u64::from(number(bytes, at + 4));
+    let kind = le32_at(bytes, at);
+    let size = u64::from(le32_at(bytes, at + 4));
     if size < 8 || size % 8 != 0 || at + size > end {
         return None;
     }
@@ -87,7 +87,7 @@ fn bad_segment(bytes: &[u8], at: u64, size: u64) -> bool
     requires size { size ≡ layout.size bytes.now at }
     ensures { result ≡ maps_wrongly bytes.now at }
 {
-    size < 72 || size < 72 + 80 * u64::from(number(bytes, at + 64)) || passes_end(bytes, at)
+    size < 72 || size < 72 + 80 * u64::from(le32_at(bytes, at + 64)) || passes_end(bytes, at)
 }
 
 /// Whether the bytes of the segment command at `at` pass the slice's end.
@@ -95,7 +95,7 @@ fn passes_end(bytes: &[u8], at: u64) -> bool
     requires { at + 72 ≤ length bytes.now }
     ensures { result ≡ nat_lt (length bytes.now) (fileoff bytes.now at + filesize bytes.now at) }
 {
-    match long_number(bytes, at + 40).checked_add(long_number(bytes, at + 48)) {
+    match le64_at(bytes, at + 40).checked_add(le64_at(bytes, at + 48)) {
         Some(end) => end > bytes.len() as u64,
         None => true,
     }
@@ -109,9 +109,9 @@ pub fn segment_at(bytes: &[u8], at: u64) -> Segment
     Segment {
         at,
         name: name(bytes, at + 8),
-        fileoff: long_number(bytes, at + 40),
-        filesize: long_number(bytes, at + 48),
-        initprot: number(bytes, at + 60),
+        fileoff: le64_at(bytes, at + 40),
+        filesize: le64_at(bytes, at + 48),
+        initprot: le32_at(bytes, at + 60),
     }
 }
 
@@ -122,7 +122,7 @@ pub fn signature_range(bytes: &[u8], at: u64) -> Range
     ensures fits { result.at + result.len < 2 ^ 33 }
 {
     Range {
-        at: u64::from(number(bytes, at + 8)),
-        len: u64::from(number(bytes, at + 12)),
+        at: u64::from(le32_at(bytes, at + 8)),
+        len: u64::from(le32_at(bytes, at + 12)),
     }
 }

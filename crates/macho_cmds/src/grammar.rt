@@ -11,17 +11,16 @@ ghost use Rattle.macho_cmds.specs.Images.{IsImage, IsInside};
 
 use crate::commands::{SEGMENT, SIGNATURE, checked, commands_end, segment_at, signature_range};
 use crate::mach_image::Image;
-use crate::numbers::number;
 use crate::refusal::{MachFail, MachRefusal};
 use crate::segment::{Segment, Segments};
-use pg_bytes::{Range, bytes_in};
+use pg_bytes::{Range, bytes_in, le32_at};
 use std::alloc::Global;
 
 /// The magic of an image of 64 bits.
 const MAGIC: u32 = 0xfeed_facf;
 
 /// The image in a slice of a file. The refusal is that of the first rule that is broken; `MachRefusal` has them in
-/// their order. The other error is want of memory.
+/// their order. The condition is that the slice lies within the bytes. The other error is want of memory.
 pub fn image(alloc: Global, bytes: &[u8], slice: &Range) -> Result<Image, MachFail>
     requires { slice.now.at + slice.now.len ≤ length bytes.now }
     ensures accepted { IfOk result (IsImage bytes.now slice.now) }
@@ -33,9 +32,9 @@ pub fn image(alloc: Global, bytes: &[u8], slice: &Range) -> Result<Image, MachFa
     let commands = walked(alloc, bytes)?;
     let (sig_at, sig) = signed(bytes, commands.signature)?;
     Ok(Image {
-        cputype: number(bytes, 4),
-        cpusubtype: number(bytes, 8),
-        filetype: number(bytes, 12),
+        cputype: le32_at(bytes, 4),
+        cpusubtype: le32_at(bytes, 8),
+        filetype: le32_at(bytes, 12),
         segments: Segments::new(commands.segments),
         sig,
         sig_at,
@@ -80,7 +79,7 @@ fn headed(bytes: &[u8], start: u64) -> Result<(), MachRefusal>
     if bytes.len() < 32 {
         return Err(MachRefusal::Short);
     }
-    if number(bytes, 0) != MAGIC {
+    if le32_at(bytes, 0) != MAGIC {
         return Err(MachRefusal::BadMagic);
     }
     if start % 4096 != 0 {
@@ -110,7 +109,7 @@ fn walked(alloc: Global, bytes: &[u8]) -> Result<Commands, MachFail>
         signature: None,
     };
     let mut at = 32;
-    for index in 0..u64::from(number(bytes, 16)) {
+    for index in 0..u64::from(le32_at(bytes, 16)) {
         let command = checked(bytes, at, index, found.signature.is_some())?;
         found.add(bytes, at, command.kind)?;
         at += command.size;

@@ -7,7 +7,7 @@
 mod commands;
 mod grammar;
 mod mach_image;
-mod numbers;
+mod names;
 mod refusal;
 mod segment;
 

@@ -4,43 +4,10 @@ ghost use Rattle.macho_cmds.specs.Refusals.{refusal_of};
 use super::*;
 use MachRefusal::*;
 use cs_policy::Refusal;
+use cs_samples::{COMMANDS, put, thin_arm64};
 use pg_bytes::Range;
 use std::alloc::Global;
 use std::test::Fail;
-
-/// The header and the load commands of a thin file for arm64, of 8,520 bytes.
-const COMMANDS: [u8; 192] = [
-    0xcf, 0xfa, 0xed, 0xfe, 0x0c, 0, 0, 1, 0, 0, 0, 0, 2, 0, 0, 0, // magic, arm64, a program
-    3, 0, 0, 0, 0xa0, 0, 0, 0, 0x85, 0, 0x20, 0, 0, 0, 0, 0, // three commands in 160 bytes
-    0x19, 0, 0, 0, 72, 0, 0, 0, // 32: a segment
-    b'_', b'_', b'T', b'E', b'X', b'T', 0, 0, 0, 0, 0, 0, 0, 0, 0, 0, //
-    0, 0, 0, 0, 0, 0, 0, 0, 0, 0, 0, 0, 0, 0, 0, 0, // vmaddr, vmsize
-    0, 0, 0, 0, 0, 0, 0, 0, 0, 0x20, 0, 0, 0, 0, 0, 0, // fileoff 0, filesize 8,192
-    0, 0, 0, 0, 0, 0, 0, 0, 0, 0, 0, 0, 0, 0, 0, 0, // maxprot, initprot, nsects, flags
-    0x19, 0, 0, 0, 72, 0, 0, 0, // 104: a segment
-    b'_', b'_', b'L', b'I', b'N', b'K', b'E', b'D', b'I', b'T', 0, 0, 0, 0, 0, 0, //
-    0, 0, 0, 0, 0, 0, 0, 0, 0, 0, 0, 0, 0, 0, 0, 0, // vmaddr, vmsize
-    0, 0x20, 0, 0, 0, 0, 0, 0, 0x48, 1, 0, 0, 0, 0, 0, 0, // fileoff 8,192, filesize 328
-    0, 0, 0, 0, 0, 0, 0, 0, 0, 0, 0, 0, 0, 0, 0, 0, // maxprot, initprot, nsects, flags
-    0x1d, 0, 0, 0, 16, 0, 0, 0, 0x70, 0x20, 0, 0, 0xd8, 0, 0, 0, // 176: a signature
-];
-
-/// The whole file: zeros, a page of spaces, more bytes, and the signature, which nothing looks into here.
-fn thin_arm64(alloc: Global) -> Result<Vec<u8>, Fail> {
-    let mut bytes = COMMANDS.to_vec(alloc)?;
-    bytes.resize(4096, 0)?;
-    bytes.resize(8192, 0x20)?;
-    bytes.resize(8304, 0x30)?;
-    bytes.resize(8520, 0)?;
-    Ok(bytes)
-}
-
-/// Writes bytes at a place.
-fn put(bytes: &mut [u8], at: usize, field: &[u8]) {
-    for (place, byte) in bytes.iter_mut().skip(at).zip(field) {
-        *place = *byte;
-    }
-}
 
 /// The image in the bytes from a place on.
 fn image_at(alloc: Global, bytes: &[u8], at: u64) -> Result<Image, MachFail> {

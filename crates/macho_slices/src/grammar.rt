@@ -1,7 +1,6 @@
 //! The rules of a file of Mach-O images, tried in their order.
 
-ghost use Rattle.std.specs.Prelude.{◌≡◌, ◌+◌, ◌^◌, ◌<◌, ◌≤◌, All, IfOk, IfErr, OnOk, None, Some, MatchResult, IsTrue, IsFalse, length, position};
-ghost use Rattle.pg_bytes.specs.Fields.{be32_at, be64_at, le32_at};
+ghost use Rattle.std.specs.Prelude.{◌≡◌, ◌^◌, ◌<◌, All, IfOk, IfErr, OnOk, None, Some, MatchResult, IsTrue, IsFalse, position};
 ghost use Rattle.macho_slices.specs.Layout.{count, form_of, fat_slices, slices_by};
 ghost use Rattle.macho_slices.specs.Layout as layout;
 ghost use Rattle.pg_bytes.specs.Rules.{Tries, first};
@@ -10,17 +9,17 @@ ghost use Rattle.macho_slices.specs.Slices.{IsSlices, IsWithin};
 
 use crate::form::{Form, Width};
 use crate::refusal::{FatFail, FatRefusal};
-use pg_bytes::{Range, be32, be64, le32};
+use pg_bytes::{Range, be32_at, be64_at, le32_at};
 use std::alloc::Global;
 
 /// The magic of a thin file, whose numbers have their least byte first.
 const THIN_MAGIC: u32 = 0xfeed_facf;
 
 /// The magic of a fat file with offsets and sizes of four bytes.
-const NARROW_MAGIC: u64 = 0xcafe_babe;
+const NARROW_MAGIC: u32 = 0xcafe_babe;
 
 /// The magic of a fat file with offsets and sizes of eight bytes.
-const WIDE_MAGIC: u64 = 0xcafe_babf;
+const WIDE_MAGIC: u32 = 0xcafe_babf;
 
 /// The most records that a table may have.
 const MOST_RECORDS: u64 = 32;
@@ -45,31 +44,6 @@ pub fn slices(alloc: Global, bytes: &[u8]) -> Result<Vec<Range>, FatFail>
     }
 }
 
-/// The big-endian number of the four bytes at `at`.
-fn number(bytes: &[u8], at: u64) -> u64
-    requires { at + 4 ≤ length bytes.now }
-    ensures value { result ≡ be32_at bytes.now at }
-    ensures fits { result < 2 ^ 32 }
-{
-    u64::from(be32(bytes, at).unwrap())
-}
-
-/// The big-endian number of the eight bytes at `at`.
-fn long_number(bytes: &[u8], at: u64) -> u64
-    requires { at + 8 ≤ length bytes.now }
-    ensures { result ≡ be64_at bytes.now at }
-{
-    be64(bytes, at).unwrap()
-}
-
-/// The little-endian number of the first four bytes.
-fn first_number(bytes: &[u8]) -> u32
-    requires { 4 ≤ length bytes.now }
-    ensures { result ≡ le32_at bytes.now 0 }
-{
-    le32(bytes, 0).unwrap()
-}
-
 /// The rules on how the file begins.
 fn begun(bytes: &[u8]) -> Result<Form, FatRefusal>
     ensures tries { Tries (start_rules bytes.now) result }
@@ -78,10 +52,10 @@ fn begun(bytes: &[u8]) -> Result<Form, FatRefusal>
     if bytes.len() < 4 {
         return Err(FatRefusal::Short);
     }
-    if first_number(bytes) == THIN_MAGIC {
+    if le32_at(bytes, 0) == THIN_MAGIC {
         return Ok(Form::Thin);
     }
-    match number(bytes, 0) {
+    match be32_at(bytes, 0) {
         NARROW_MAGIC => Ok(Form::Fat(Width::Narrow)),
         WIDE_MAGIC => Ok(Form::Fat(Width::Wide)),
         _ => Err(FatRefusal::BadMagic),
@@ -109,7 +83,7 @@ fn tabled(bytes: &[u8], width: Width) -> Result<(), FatRefusal>
     if bytes.len() < 8 {
         return Err(FatRefusal::Short);
     }
-    let count = number(bytes, 4);
+    let count = u64::from(be32_at(bytes, 4));
     if count > MOST_RECORDS {
         return Err(FatRefusal::TooMany { count });
     }
@@ -137,7 +111,7 @@ fn placed(alloc: Global, bytes: &[u8], width: Width) -> Result<Vec<Range>, FatFa
     ensures kept { OnOk result (first (place_rules width bytes.now) ≡ None) }
     ensures refused { IfErr result (Refuses (first (place_rules width bytes.now))) }
 {
-    let count = number(bytes, 4);
+    let count = u64::from(be32_at(bytes, 4));
     let mut found = Vec::with_capacity(alloc, count as usize)?;
     for i in 0..count {
         found.push(placed_slice(bytes, width, i)?)?;
@@ -171,12 +145,12 @@ fn slice_at(bytes: &[u8], width: Width, i: u64) -> Range
     let at = record_at(width, i);
     match width {
         Width::Narrow => Range {
-            at: number(bytes, at + 8),
-            len: number(bytes, at + 12),
+            at: u64::from(be32_at(bytes, at + 8)),
+            len: u64::from(be32_at(bytes, at + 12)),
         },
         Width::Wide => Range {
-            at: long_number(bytes, at + 8),
-            len: long_number(bytes, at + 16),
+            at: be64_at(bytes, at + 8),
+            len: be64_at(bytes, at + 16),
         },
     }
 }

@@ -21,5 +21,5 @@ returns-in_err-sig_at-clause-refused c =
 pub returns-clause-accepted : goal.returns-clause-accepted
 returns-clause-accepted c = record {
   unbroken = broken-bytes _ _ _ _ c.bytes_in-bytes.ensures.bytes (broken_by_signature _ _ None c.in_ok-headed.ensures.tries c.in_ok-commands.ensures.kept c.in_ok-sig_at.ensures.tries);
-  says = image_of-bytes c.args.bytes.now c.args.slice.now _ _ _ _ _ _ _ c.bytes_in-bytes.ensures.bytes c.number.ensures c.number-2.ensures c.number-3.ensures (c.new.ensures ∙ c.in_ok-commands.ensures.segments) c.in_ok-sig_at.ensures.place c.in_ok-sig_at.ensures.range;
+  says = image_of-bytes c.args.bytes.now c.args.slice.now _ _ _ _ _ _ _ c.bytes_in-bytes.ensures.bytes c.le32_at.ensures c.le32_at-2.ensures c.le32_at-3.ensures (c.new.ensures ∙ c.in_ok-commands.ensures.segments) c.in_ok-sig_at.ensures.place c.in_ok-sig_at.ensures.range;
 }
