@@ -28,6 +28,8 @@ pub record SinkNow : Type 0 where
   pub written : List ℕ
   -- how many more it takes
   pub room : ℕ
+  -- how many bytes of a piece it takes at most
+  pub most : ℕ
   -- how many writes were made
   pub made : ℕ
   -- the numbers of the writes that are to fail: the first write is number 1
@@ -39,9 +41,9 @@ pub record SinkNow : Type 0 where
 abbrev pub next_fails : SinkNow → Bool
 next_fails sink = is_to_fail sink.made sink.fails
 
--- how many bytes of a piece the next write takes: none where it is to fail, else those for which there is room
+-- how many bytes of a piece the next write takes: none where it is to fail, else the most that it may and has room for
 abbrev pub taken : SinkNow → List ℕ → ℕ
-taken sink bytes = if next_fails sink then 0 else min (length bytes) sink.room
+taken sink bytes = if next_fails sink then 0 else min (min (length bytes) sink.most) sink.room
 
 -- whether the next write is a fault: it is to fail, or there is a byte and no room for it
 abbrev pub is_fault : SinkNow → List ℕ → Bool
@@ -52,6 +54,7 @@ abbrev pub after_write : SinkNow → List ℕ → SinkNow
 after_write sink bytes = record {
   written = sink.written ++ take (taken sink bytes) bytes;
   room = sink.room - taken sink bytes;
+  most = sink.most;
   made = next_count sink.made;
   fails = sink.fails;
   faults = if is_fault sink bytes then next_count sink.faults else sink.faults;

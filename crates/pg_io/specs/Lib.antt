@@ -3,6 +3,7 @@ pub mod Files
 pub mod InMemory
 pub mod MemPages
 pub mod MemPagesLaws
+pub mod PageBytes
 pub mod Pager
 pub mod Sink
 pub use Rattle.pg_bytes.specs.Counts

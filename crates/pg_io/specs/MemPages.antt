@@ -1,12 +1,16 @@
 -- Pages that stand in memory.
-use Rattle.std.specs.Prelude.{ℕ, zero, suc, ◌+◌, ◌-◌, ◌*◌, ◌/◌, Bool, List, [], ◌∷◌, ◌++◌, length, take, drop, replicate, Some, if◌then◌else◌}
+use Rattle.std.specs.Prelude.{ℕ, zero, suc, ◌-◌, ◌*◌, ◌/◌, Bool, List, [], ◌∷◌, ◌++◌, length, take, drop, replicate, Some, if◌then◌else◌}
+use Rattle.std.specs.Int.{div_ceil}
 use Rattle.pg_io.specs.Calls.{next_count, is_to_fail}
-use Rattle.pg_io.specs.Pager.{page_size, PagerNow}
+use Rattle.pg_io.specs.Pager.{PagerNow}
+use Rattle.pg_io.specs.PageBytes.{written_over}
 
 -- a pager in memory
 pub record MemPagerNow : Type 0 where
   -- the bytes of its pages, one after another
   pub bytes : List ℕ
+  -- how many bytes a page has
+  pub page_size : ℕ
   -- how many bytes it was made of, before zeros filled the last page
   pub length : ℕ
   -- how many calls were made
@@ -18,26 +22,22 @@ pub record MemPagerNow : Type 0 where
   -- how many reads were made
   pub reads : ℕ
 
--- how many pages so many bytes reach
-abbrev pub pages_reached : ℕ → ℕ
-pages_reached bytes = (bytes + (page_size - 1)) / page_size
+-- how many pages of this size so many bytes reach
+abbrev pub pages_reached : ℕ → ℕ → ℕ
+pages_reached size bytes = div_ceil bytes size
 
--- these bytes, with zeros up to a whole page
-abbrev pub whole_pages : List ℕ → List ℕ
-whole_pages bytes = bytes ++ replicate (page_size * pages_reached (length bytes) - length bytes) 0
+-- these bytes, with zeros up to a whole page of this size
+abbrev pub whole_pages : ℕ → List ℕ → List ℕ
+whole_pages size bytes = bytes ++ replicate (size * pages_reached size (length bytes) - length bytes) 0
 
 -- the first pages of these bytes, so many, each of so many bytes
 abbrev pub first_pages : ℕ → ℕ → List ℕ → List (List ℕ)
 first_pages size zero bytes = []
 first_pages size (suc count) bytes = take size bytes ∷ first_pages size count (drop size bytes)
 
--- the whole pages of these bytes
-unfoldable pub pages_of : List ℕ → List (List ℕ)
-pages_of bytes = first_pages page_size (length bytes / page_size) bytes
-
--- these bytes put among others at a place
-abbrev pub written_over : List ℕ → ℕ → List ℕ → List ℕ
-written_over bytes at from = take at bytes ++ (from ++ drop (at + length from) bytes)
+-- the whole pages of this size in these bytes
+unfoldable pub pages_of : ℕ → List ℕ → List (List ℕ)
+pages_of size bytes = first_pages size (length bytes / size) bytes
 
 -- whether the next call is to fail
 abbrev pub call_fails : MemPagerNow → Bool
@@ -54,7 +54,7 @@ after_page_read pager = record pager { made = next_count pager.made; faults = fa
 -- the pager after a write of these bytes to a page: where it is to fail, the page is as it was
 abbrev pub after_page_write : ℕ → List ℕ → MemPagerNow → MemPagerNow
 after_page_write page from pager = record pager {
-  bytes = if call_fails pager then pager.bytes else written_over pager.bytes (page * page_size) from;
+  bytes = if call_fails pager then pager.bytes else written_over pager.bytes (page * pager.page_size) from;
   made = next_count pager.made;
   faults = faults_after pager;
 }
@@ -62,8 +62,9 @@ after_page_write page from pager = record pager {
 -- what a pager in memory shows
 abbrev pub shown : MemPagerNow → PagerNow
 shown pager = record {
-  pages = length pager.bytes / page_size;
-  told = Some (record { holds = pages_of pager.bytes; made = pager.made; fails = pager.fails });
+  pages = length pager.bytes / pager.page_size;
+  page_size = pager.page_size;
+  told = Some (record { holds = pages_of pager.page_size pager.bytes; made = pager.made; fails = pager.fails });
   faults = pager.faults;
   reads = pager.reads;
 }

@@ -2,10 +2,10 @@
 use Rattle.std.proofs.Common.{◌≡◌, ℕ, zero, suc, ◌+◌, ◌*◌, ◌/◌, ◌<◌, ◌≤◌, List, ◌∷◌, ◌++◌, length, take, drop, refl, ap, sym, subst, ◌∙◌, arith, append_assoc}
 use Rattle.std.specs.Prelude.{All, Some, slice_get, slice_set}
 use Rattle.std.proofs.Math.Seq.{take-add, take-append_seam, drop-append_seam}
-use Rattle.std.proofs.Math.Nat.{div-mul-le_self}
+use Rattle.std.proofs.Math.Nat.{div-mul-le_self, mul-le-mul_right}
 use Rattle.std.proofs.lemmas.List.{drop-drop, length-take-le, length-drop, length-append}
 use Rattle.std.proofs.lemmas.List.Elements.{All-cons, All-nil}
-use Rattle.pg_io.specs.Pager.{page_size, TellsWhole}
+use Rattle.pg_io.specs.Pager.{TellsWhole}
 use Rattle.pg_io.specs.MemPages.{first_pages, pages_of, shown, MemPagerNow}
 
 length-first_pages : (size count : ℕ) (bytes : List ℕ) → length (first_pages size count bytes) ≡ count
@@ -61,16 +61,12 @@ set-first_pages size (suc count) (suc page) at end bytes from inside fits whole 
     ∙ first_pages-append size count (take size bytes) (front ++ (from ++ back)) (length-take-le size bytes (omega arith))
     ∙ ap (λ (pages : List (List ℕ)). take size bytes ∷ pages) (set-first_pages size count page (page * size) (page * size + size) rest from (omega arith) (omega arith) whole refl refl)
 
--- so many whole pages stand in the bytes
-whole_pages_fit : (bytes : List ℕ) → length bytes / page_size * page_size ≤ length bytes
-whole_pages_fit bytes = div-mul-le_self (length bytes) page_size
-
 -- the bytes of a page
-pub get-pages_of : (bytes : List ℕ) (page : ℕ) → page < length bytes / page_size → slice_get (pages_of bytes) page ≡ Some (take page_size (drop (page * page_size) bytes))
+pub get-pages_of : (size : ℕ) (bytes : List ℕ) (page : ℕ) → page < length bytes / size → slice_get (pages_of size bytes) page ≡ Some (take size (drop (page * size) bytes))
 unfolding pages_of
-get-pages_of bytes page inside = get-first_pages page_size (length bytes / page_size) page bytes inside
+get-pages_of size bytes page inside = get-first_pages size (length bytes / size) page bytes inside
 
--- the bytes stay as many where a page is written over
+-- the bytes stay as many where some of them are written over
 pub length-over : (bytes from : List ℕ) (at : ℕ) → at + length from ≤ length bytes → length (take at bytes ++ (from ++ drop (at + length from) bytes)) ≡ length bytes
 length-over bytes from at fits =
     let a = length-append (take at bytes) (from ++ drop (at + length from) bytes) in
@@ -79,21 +75,29 @@ length-over bytes from at fits =
     let d = length-take-le at bytes (omega arith) in
     omega arith
 
+-- a page lies within the bytes
+pub page_fits : (size count page bytes : ℕ) → page < count → count * size ≤ bytes → page * size + size ≤ bytes
+page_fits size count page bytes inside fits =
+    let next_page : page + 1 ≤ count = omega arith in
+    let next = mul-le-mul_right size next_page in
+    omega arith
+
 -- the pages where one of them is written over
-pub set-pages_of : (bytes from : List ℕ) (page : ℕ) → page < length bytes / page_size → length from ≡ page_size
-    → pages_of (take (page * page_size) bytes ++ (from ++ drop (page * page_size + length from) bytes)) ≡ slice_set (pages_of bytes) page from
+pub set-pages_of : (size : ℕ) (bytes from : List ℕ) (page : ℕ) → page < length bytes / size → length from ≡ size
+    → pages_of size (take (page * size) bytes ++ (from ++ drop (page * size + length from) bytes)) ≡ slice_set (pages_of size bytes) page from
 unfolding pages_of
-set-pages_of bytes from page inside whole =
-    let at = page * page_size in
-    let fit = whole_pages_fit bytes in
+set-pages_of size bytes from page inside whole =
+    let at = page * size in
+    let fit = div-mul-le_self (length bytes) size in
+    let ends = page_fits size (length bytes / size) page (length bytes) inside fit in
     let same = length-over bytes from at (omega arith) in
-    ap (λ n. first_pages page_size (n / page_size) (take at bytes ++ (from ++ drop (at + length from) bytes))) same
-    ∙ set-first_pages page_size (length bytes / page_size) page at (at + length from) bytes from inside fit whole refl (ap (λ n. at + n) whole)
+    ap (λ n. first_pages size (n / size) (take at bytes ++ (from ++ drop (at + length from) bytes))) same
+    ∙ set-first_pages size (length bytes / size) page at (at + length from) bytes from inside fit whole refl (ap (λ n. at + n) whole)
 
 -- a pager in memory tells whole pages, as many as it has
 pub shown-TellsWhole : (pager : MemPagerNow) → TellsWhole (shown pager)
 unfolding pages_of
 shown-TellsWhole pager = (
-  length-first_pages page_size (length pager.bytes / page_size) pager.bytes,
-  All-first_pages page_size (length pager.bytes / page_size) pager.bytes (whole_pages_fit pager.bytes),
+  length-first_pages pager.page_size (length pager.bytes / pager.page_size) pager.bytes,
+  All-first_pages pager.page_size (length pager.bytes / pager.page_size) pager.bytes (div-mul-le_self (length pager.bytes) pager.page_size),
 )

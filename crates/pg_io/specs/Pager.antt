@@ -1,12 +1,8 @@
 -- What is known of a file's pages behind a pager.
-use Rattle.std.specs.Prelude.{ℕ, ◌≡◌, List, length, All, Bool, false, MatchBool, Option, Some, IfSome, slice_get, slice_set, if◌then◌else◌}
+use Rattle.std.specs.Prelude.{ℕ, ◌≡◌, List, length, All, Bool, false, MatchBool, Option, Some, IfSome, IsSomeAnd, slice_get, slice_set, if◌then◌else◌}
 use Rattle.std.specs.Option.{option_map}
 use Rattle.pg_bytes.specs.Counts.{Rose}
-use Rattle.pg_io.specs.Calls.{next_count, is_to_fail}
-
--- how many bytes a page has
-abbrev pub page_size : ℕ
-page_size = 4096
+use Rattle.pg_io.specs.Calls.{next_count, is_to_fail, count_after, outcomes}
 
 -- what a pager that tells its content shows
 pub record ToldPages : Type 0 where
@@ -21,6 +17,8 @@ pub record ToldPages : Type 0 where
 pub record PagerNow : Type 0 where
   -- how many pages there are
   pub pages : ℕ
+  -- how many bytes each of them has
+  pub page_size : ℕ
   -- its content, where that is known
   pub told : Option ToldPages
   -- how many calls have failed
@@ -30,7 +28,7 @@ pub record PagerNow : Type 0 where
 
 -- the pages that are told are as many as there are, and each is whole
 abbrev pub TellsWhole : PagerNow → Type 0
-TellsWhole pager = IfSome pager.told (λ told. (length told.holds ≡ pager.pages) × All (λ bytes. length bytes ≡ page_size) told.holds)
+TellsWhole pager = IfSome pager.told (λ told. (length told.holds ≡ pager.pages) × All (λ bytes. length bytes ≡ pager.page_size) told.holds)
 
 -- A failed call raises the count of faults, and a call that succeeded leaves it: no fault is hidden.
 abbrev pub FaultsAfter : Bool → ℕ → ℕ → Type 0
@@ -51,6 +49,7 @@ with_page page bytes told = record { holds = slice_set told.holds page bytes; ma
 -- One read of a page. Where it succeeded, these are the page's bytes.
 pub record IsRead (old : PagerNow) (page : ℕ) (failed : Bool) (bytes : List ℕ) (new : PagerNow) : Type 0 where
   pub pages : new.pages ≡ old.pages
+  pub page_size : new.page_size ≡ old.page_size
   pub reads : Rose old.reads new.reads
   pub faults : FaultsAfter failed old.faults new.faults
   pub outcome : IfSome old.told (λ told. failed ≡ next_fails told)
@@ -60,7 +59,21 @@ pub record IsRead (old : PagerNow) (page : ℕ) (failed : Bool) (bytes : List �
 -- One write of these bytes to a page. Where it failed, the page is as it was.
 pub record IsWrite (old : PagerNow) (page : ℕ) (failed : Bool) (bytes : List ℕ) (new : PagerNow) : Type 0 where
   pub pages : new.pages ≡ old.pages
+  pub page_size : new.page_size ≡ old.page_size
   pub reads : new.reads ≡ old.reads
   pub faults : FaultsAfter failed old.faults new.faults
   pub outcome : IfSome old.told (λ told. failed ≡ next_fails told)
   pub told : new.told ≡ option_map (λ told. if failed then after_call told else with_page page bytes told) old.told
+
+-- ---- calls one after another
+
+-- What is told after calls of which these failed: the count went on by one for each, and each failed exactly where it
+-- was to fail.
+pub record Follow (old : ToldPages) (failed : List Bool) (new : ToldPages) : Type 0 where
+  pub made : new.made ≡ count_after old.made (length failed)
+  pub fails : new.fails ≡ old.fails
+  pub outcomes : failed ≡ outcomes old.made old.fails (length failed)
+
+-- The same of a pager, where it tells.
+abbrev pub MadeCalls : PagerNow → List Bool → PagerNow → Type 0
+MadeCalls old failed new = IfSome old.told (λ before. IsSomeAnd new.told (λ now. Follow before failed now))

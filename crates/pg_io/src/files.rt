@@ -1,4 +1,4 @@
-ghost use Rattle.std.specs.Prelude.{◌≡◌, ◌≤◌, ℕ, Option, IfOk, IsErrOf, vec_len};
+ghost use Rattle.std.specs.Prelude.{◌≡◌, ◌≤◌, ℕ, Option, IfOk, OnOk, IsErrOf, vec_len};
 ghost use Rattle.pg_bytes.specs.Counts.{Rose};
 ghost use Rattle.pg_io.specs.Files.{Told, ReadGives};
 
@@ -30,5 +30,8 @@ pub trait Files {
 
         // It does not give up by itself: a failure is the outside's.
         ensures failed { IsErrOf result ReadFail.Failed → Rose (faults self.old) (faults self.new) }
-        ensures no_memory { IsErrOf result ReadFail.NoMemory → faults self.new ≡ faults self.old };
+        ensures no_memory { IsErrOf result ReadFail.NoMemory → faults self.new ≡ faults self.old }
+
+        // Nor does it hide a fault behind bytes that it gives.
+        ensures sound { OnOk result (faults self.new ≡ faults self.old) };
 }

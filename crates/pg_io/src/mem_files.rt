@@ -1,4 +1,4 @@
-ghost use Rattle.std.specs.Prelude.{◌≡◌, ◌≤◌, IfOk, IsErrOf, vec_len, length, string_bytes, option_copied, take, Some};
+ghost use Rattle.std.specs.Prelude.{◌≡◌, ◌≤◌, IfOk, OnOk, IsErrOf, vec_len, length, string_bytes, option_copied, take, Some};
 ghost use Rattle.std.specs.List.{position};
 ghost use Rattle.std.specs.Str.{bytes_eq};
 ghost use Rattle.pg_io.specs.Files.{contents as contents_of, next_read, ReadGives};
@@ -102,6 +102,7 @@ impl Files for MemFiles {
         ensures most { IfOk result (λ v. vec_len v ≤ most) }
         ensures later { self.old.faults ≤ self.new.faults }
         ensures failed { IsErrOf result ReadFail.Failed → Rose self.old.faults self.new.faults }
+        ensures sound { OnOk result (self.new.faults ≡ self.old.faults) }
     {
         let Some(whole) = self.next_read(name) else {
             self.calls.count();

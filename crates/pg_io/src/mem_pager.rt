@@ -1,12 +1,14 @@
 ghost use Rattle.std.specs.Prelude.{◌≡◌, ◌+◌, ◌-◌, ◌<◌, ◌≤◌, ◌++◌, IfOk, IsTrue, is_err, if◌then◌else◌, vec_len, length, take, drop, replicate};
 ghost use Rattle.pg_io.specs.Calls.{next_count, is_to_fail};
-ghost use Rattle.pg_io.specs.Pager.{page_size, FaultsAfter, IsRead, IsWrite};
-ghost use Rattle.pg_io.specs.MemPages.{MemPagerNow, shown, whole_pages, written_over, after_page_read, after_page_write};
+ghost use Rattle.pg_io.specs.PageBytes.{is_page_size};
+ghost use Rattle.pg_io.specs.Pager.{FaultsAfter, IsRead, IsWrite};
+ghost use Rattle.pg_io.specs.MemPages.{MemPagerNow, shown, whole_pages, after_page_read, after_page_write};
 ghost use Rattle.pg_io.specs.MemPagesLaws.{shown-TellsWhole};
 
 use crate::NoMemory;
 use crate::calls::Calls;
-use crate::pager::{PAGE_SIZE, Pager};
+use crate::page_buffer::put_bytes;
+use crate::pager::Pager;
 use crate::sink::Failed;
 use std::marker::Model;
 
@@ -14,6 +16,7 @@ use std::marker::Model;
 #[derive(Drop)]
 pub struct MemPager {
     bytes: Vec<u8>,
+    page_size: u32,
     length: u64,
     calls: Calls,
     faults: u64,
@@ -21,26 +24,33 @@ pub struct MemPager {
 }
 
 impl Model for MemPager {
+    ghost use Rattle.std.specs.Prelude.{IsTrue};
+    ghost use Rattle.pg_io.specs.PageBytes.{is_page_size};
     ghost use Rattle.pg_io.specs.MemPages.{MemPagerNow};
 
     ghost Value = { MemPagerNow };
 
     ghost view = { λ pager. record {
       bytes = pager.bytes.items;
+      page_size = pager.page_size;
       length = pager.length;
       made = pager.calls.made;
       fails = pager.calls.fails.items;
       faults = pager.faults;
       reads = pager.reads;
     } };
+
+    ghost invariant = { λ pager. IsTrue (is_page_size pager.page_size) };
 }
 
 impl MemPager {
-    /// A pager of these bytes, with zeros up to a whole page. The calls whose numbers stand in `fails`
-    /// are to fail: the first call, of reads and writes together, is number 1.
-    pub fn new(bytes: Vec<u8>, fails: Vec<u64>) -> Result<MemPager, NoMemory>
+    /// A pager of these bytes in pages of `page` bytes, 4,096 or 16,384, with zeros up to a whole page. The calls
+    /// whose numbers stand in `fails` are to fail: the first call, of reads and writes together, is number 1.
+    pub fn new(bytes: Vec<u8>, fails: Vec<u64>, page: u32) -> Result<MemPager, NoMemory>
+        requires { IsTrue (is_page_size page) }
         ensures { IfOk result (λ pager. pager ≡ record {
-          bytes = whole_pages bytes.items;
+          bytes = whole_pages page bytes.items;
+          page_size = page;
           length = vec_len bytes;
           made = 0;
           fails = fails.items;
@@ -50,7 +60,8 @@ impl MemPager {
     {
         let length = bytes.len();
         Ok(MemPager {
-            bytes: padded(bytes)?,
+            bytes: padded(bytes, page as usize)?,
+            page_size: page,
             length: length as u64,
             calls: Calls::new(fails),
             faults: 0,
@@ -83,21 +94,14 @@ impl MemPager {
     }
 }
 
-// The bytes, with zeros up to a whole page.
-fn padded(mut bytes: Vec<u8>) -> Result<Vec<u8>, NoMemory>
-    ensures { IfOk result (λ whole. whole.items ≡ whole_pages bytes.items) }
+// The bytes, with zeros up to a whole page of this size.
+fn padded(mut bytes: Vec<u8>, page_size: usize) -> Result<Vec<u8>, NoMemory>
+    requires { IsTrue (is_page_size page_size) }
+    ensures { IfOk result (λ whole. whole.items ≡ whole_pages page_size bytes.items) }
 {
-    let pages = bytes.len().div_ceil(PAGE_SIZE);
-    bytes.resize(pages * PAGE_SIZE, 0)?;
+    let pages = bytes.len().div_ceil(page_size);
+    bytes.resize(pages * page_size, 0)?;
     Ok(bytes)
-}
-
-// These bytes put at a place among others.
-fn put_at(bytes: &mut [u8], at: usize, from: &[u8])
-    requires { at + length from.now ≤ length bytes.old }
-    ensures { bytes.new ≡ written_over bytes.old at from.now }
-{
-    bytes[at..at + from.len()].copy_from_slice(from);
 }
 
 impl Pager for MemPager {
@@ -106,12 +110,16 @@ impl Pager for MemPager {
     ghost whole = { shown-TellsWhole };
 
     fn pages(&self) -> u64 {
-        (self.bytes.len() / PAGE_SIZE) as u64
+        (self.bytes.len() / self.page_size as usize) as u64
+    }
+
+    fn page_size(&self) -> u32 {
+        self.page_size
     }
 
     fn read_page(&mut self, page: u64, into: &mut [u8]) -> Result<(), Failed>
         requires inside { page < (shown self.old).pages }
-        requires whole { length into.old ≡ page_size }
+        requires whole { length into.old ≡ self.old.page_size }
         ensures read { IsRead (shown self.old) page (is_err result) into.new (shown self.new) }
         ensures after { self.new ≡ after_page_read self.old }
     {
@@ -119,21 +127,23 @@ impl Pager for MemPager {
         if self.call_fails() {
             return Err(Failed);
         }
-        let at = page as usize * PAGE_SIZE;
-        into.copy_from_slice(&self.bytes[at..at + PAGE_SIZE]);
+        let page_size = self.page_size as usize;
+        let at = page as usize * page_size;
+        into.copy_from_slice(&self.bytes[at..at + page_size]);
         Ok(())
     }
 
     fn write_page(&mut self, page: u64, from: &[u8]) -> Result<(), Failed>
         requires inside { page < (shown self.old).pages }
-        requires whole { length from.now ≡ page_size }
+        requires whole { length from.now ≡ self.old.page_size }
         ensures wrote { IsWrite (shown self.old) page (is_err result) from.now (shown self.new) }
         ensures after { self.new ≡ after_page_write page from.now self.old }
     {
         if self.call_fails() {
             return Err(Failed);
         }
-        put_at(&mut self.bytes, page as usize * PAGE_SIZE, from);
+        let at = page as usize * self.page_size as usize;
+        put_bytes(&mut self.bytes, at, from);
         Ok(())
     }
 }

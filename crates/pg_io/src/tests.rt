@@ -1,7 +1,11 @@
+ghost use Rattle.std.specs.Prelude.{IsTrue};
+ghost use Rattle.pg_io.specs.PageBytes.{is_page_size};
+
 use crate::{
-    DiskFiles, Failed, Files, MemFiles, MemPager, MemSink, PAGE_SIZE, Pager, ReadFail, Sink,
-    StdoutSink, write_whole,
+    DiskFiles, Failed, Files, Gate, MemFiles, MemPager, MemSink, Moment, NoMemory, OpenGate,
+    PageBuffer, Pager, ReadFail, Sink, StdoutSink, write_whole,
 };
+use std::alloc::Global;
 use std::process::Abort;
 use std::test::Fail;
 use std::{env, fs, process};
@@ -54,13 +58,14 @@ fn memory_gives_its_files(rt: HostRuntime) -> Result<(), Fail> {
 
 #[test]
 fn memory_takes_what_has_room(rt: HostRuntime) -> Result<(), Fail> {
-    let mut sink = MemSink::open(rt.alloc(), 5, vec![in rt.alloc(); 2]?)?;
+    let mut sink = MemSink::open(rt.alloc(), 7, 3, vec![in rt.alloc(); 2]?)?;
     let writes = [
         (b"abc".as_slice(), Ok(3), b"abc".as_slice()),
         (b"x", Err(Failed), b"abc"),
         (b"", Ok(0), b"abc"),
-        (b"defg", Ok(2), b"abcde"),
-        (b"h", Ok(0), b"abcde"),
+        (b"defg", Ok(3), b"abcdef"),
+        (b"gh", Ok(1), b"abcdefg"),
+        (b"h", Ok(0), b"abcdefg"),
     ];
     for (piece, want, so_far) in writes {
         assert_eq!(rt; sink.write(piece), want);
@@ -69,26 +74,9 @@ fn memory_takes_what_has_room(rt: HostRuntime) -> Result<(), Fail> {
     Ok(())
 }
 
-// A sink that takes two bytes of a piece at most.
-#[derive(Drop)]
-struct Narrow {
-    to: MemSink,
-}
-
-impl Sink for Narrow {
-    ghost use Rattle.std.specs.Prelude.{Some};
-
-    ghost written = { λ sink. Some sink.to.written };
-
-    ghost faults = { λ sink. sink.to.faults };
-
-    fn write(&mut self, bytes: &[u8]) -> Result<usize, Failed> {
-        self.to.write(&bytes[..bytes.len().min(2)])
-    }
-}
-
 #[test]
 fn the_whole_goes_out_in_pieces(rt: HostRuntime) -> Result<(), Fail> {
+    // A sink that takes two bytes of a piece at most.
     let runs = [
         (9, 0, Ok(()), b"hello".as_slice()),
         (5, 0, Ok(()), b"hello"),
@@ -99,58 +87,96 @@ fn the_whole_goes_out_in_pieces(rt: HostRuntime) -> Result<(), Fail> {
         (0, 0, Err(Failed), b""),
     ];
     for (room, fails, want, so_far) in runs {
-        let to = MemSink::open(rt.alloc(), room, vec![in rt.alloc(); fails]?)?;
-        let mut sink = Narrow { to };
-        assert_eq!(rt;
-            write_whole(&mut sink, b"hello"),
-            want,
-            "room {room}, {fails} fails"
-        );
-        assert_eq!(rt; sink.to.bytes(), so_far, "room {room}, {fails} fails");
+        let mut sink = MemSink::open(rt.alloc(), room, 2, vec![in rt.alloc(); fails]?)?;
+        let done = write_whole(&mut sink, b"hello");
+        assert_eq!(rt; done, want, "room {room}, {fails} fails");
+        assert_eq!(rt; sink.bytes(), so_far, "room {room}, {fails} fails");
     }
-    let mut full = MemSink::open(rt.alloc(), 0, vec![in rt.alloc(); 1]?)?;
+    let mut full = MemSink::open(rt.alloc(), 0, 1, vec![in rt.alloc(); 1]?)?;
     assert_eq!(rt; write_whole(&mut full, b""), Ok(()));
     Ok(())
 }
 
 // A read of one page through the bound: its first and its last byte.
-fn ends_of<P: Pager>(pager: &mut P, page: u64) -> Result<(u8, u8), Failed> {
-    let mut bytes = [9; PAGE_SIZE];
-    if page >= pager.pages() {
-        return Err(Failed);
+fn ends_of<P: Pager>(
+    alloc: Global,
+    pager: &mut P,
+    page: u64,
+) -> Result<Option<(u8, u8)>, NoMemory> {
+    let mut buffer = PageBuffer::zeros(alloc, pager.page_size())?;
+    if page >= pager.pages() || buffer.read(pager, page).is_err() {
+        return Ok(None);
     }
-    pager.read_page(page, &mut bytes)?;
-    Ok((bytes[0], bytes[PAGE_SIZE - 1]))
+    match buffer.bytes() {
+        [first, .., last] => Ok(Some((*first, *last))),
+        _ => Ok(None),
+    }
 }
 
-// A write of one page, all of whose bytes are this one.
-fn fill<P: Pager>(pager: &mut P, page: u64, byte: u8) -> Result<(), Failed> {
-    let bytes = [byte; PAGE_SIZE];
+// A write of one page, all of whose bytes are 0 but for the last, which is this one; whether it was made.
+fn end<P: Pager>(alloc: Global, pager: &mut P, page: u64, byte: u8) -> Result<bool, NoMemory> {
+    let size = pager.page_size();
+    let mut buffer = PageBuffer::zeros(alloc, size)?;
     if page >= pager.pages() {
-        return Err(Failed);
+        return Ok(false);
     }
-    pager.write_page(page, &bytes)
+    buffer.put(size - 1, &[byte]);
+    Ok(pager.write_page(page, buffer.bytes()).is_ok())
+}
+
+// A pager of so many bytes 7, whose calls of these numbers fail.
+fn sevens(alloc: Global, length: usize, page: u32, fails: [u64; 3]) -> Result<MemPager, NoMemory>
+    requires { IsTrue (is_page_size page) }
+{
+    MemPager::new(
+        vec![in alloc; 7; length]?,
+        Vec::from_array(alloc, fails)?,
+        page,
+    )
 }
 
 #[test]
 fn memory_holds_whole_pages(rt: HostRuntime) -> Result<(), Fail> {
-    for (length, pages) in [(0, 0), (1, 1), (4096, 1), (4097, 2)] {
-        let pager = MemPager::new(vec![in rt.alloc(); 7; length]?, Vec::new(rt.alloc()))?;
+    let small = [(0, 0), (1, 1), (4096, 1), (4097, 2), (16385, 5)];
+    for (length, pages) in small {
+        let pager = sevens(rt.alloc(), length, 4096, [0; 3])?;
         assert_eq!(rt; pager.pages(), pages, "{length} bytes");
         assert_eq!(rt; pager.length(), length as u64);
     }
-    // Calls 2, 4 and 7 fail; reads and writes are counted together.
-    let fails = vec![in rt.alloc(); 7, 2, 4]?;
-    let mut pager = MemPager::new(vec![in rt.alloc(); 7; 4097]?, fails)?;
-    assert_eq!(rt; ends_of(&mut pager, 1), Ok((7, 0)));
-    assert_eq!(rt; fill(&mut pager, 0, 1), Err(Failed));
-    assert_eq!(rt; ends_of(&mut pager, 0), Ok((7, 7)));
-    assert_eq!(rt; ends_of(&mut pager, 0), Err(Failed));
-    assert_eq!(rt; fill(&mut pager, 1, 5), Ok(()));
-    assert_eq!(rt; ends_of(&mut pager, 1), Ok((5, 5)));
-    assert_eq!(rt; ends_of(&mut pager, 0), Err(Failed));
-    assert_eq!(rt; ends_of(&mut pager, 0), Ok((7, 7)));
+    for (length, pages) in [(0, 0), (1, 1), (16384, 1), (16385, 2)] {
+        let pager = sevens(rt.alloc(), length, 16384, [0; 3])?;
+        assert_eq!(rt; pager.pages(), pages, "{length} bytes");
+        assert_eq!(rt; pager.page_size(), 16384);
+    }
     Ok(())
+}
+
+#[test]
+fn reads_and_writes_are_counted_together(rt: HostRuntime) -> Result<(), Fail> {
+    let alloc = rt.alloc();
+    // Calls 2, 4 and 7 fail.
+    let mut pager = sevens(alloc, 16385, 16384, [7, 2, 4])?;
+    assert_eq!(rt; ends_of(alloc, &mut pager, 1), Ok(Some((7, 0))));
+    assert_eq!(rt; end(alloc, &mut pager, 0, 1), Ok(false));
+    assert_eq!(rt; ends_of(alloc, &mut pager, 0), Ok(Some((7, 7))));
+    assert_eq!(rt; ends_of(alloc, &mut pager, 0), Ok(None));
+    assert_eq!(rt; end(alloc, &mut pager, 1, 5), Ok(true));
+    assert_eq!(rt; ends_of(alloc, &mut pager, 1), Ok(Some((0, 5))));
+    assert_eq!(rt; ends_of(alloc, &mut pager, 0), Ok(None));
+    assert_eq!(rt; ends_of(alloc, &mut pager, 0), Ok(Some((7, 7))));
+    Ok(())
+}
+
+// A pass through the bound.
+fn pass<G: Gate>(gate: &G) {
+    gate.pass(0, 1, Moment::Inside);
+    gate.pass(0, 1, Moment::Answered);
+}
+
+#[test]
+fn an_open_gate_is_passed(rt: HostRuntime) {
+    pass(&OpenGate);
+    assert_ne!(rt; Moment::Inside, Moment::Answered);
 }
 
 #[test]

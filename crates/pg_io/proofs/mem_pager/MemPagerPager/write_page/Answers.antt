@@ -1,42 +1,33 @@
-use Rattle.std.proofs.Common.{◌≡◌, ◌*◌, ◌/◌, ◌∙◌, length, Some, ap, sym, rules}
-use Rattle.std.specs.Prelude.{slice_set}
+use Rattle.std.proofs.Common.{◌≡◌, ◌*◌, ◌/◌, ◌∙◌, List, length, Some, ap, sym, rules}
 use Rattle.pg_io.specs.Calls.{next_count}
-use Rattle.pg_io.specs.Pager.{page_size}
-use Rattle.pg_io.specs.MemPages.{MemPagerNow, pages_of}
+use Rattle.pg_io.specs.PageBytes.{written_over}
+use Rattle.pg_io.specs.MemPages.{MemPagerNow}
 use Rattle.pg_io.specs.MemPagesLaws.{set-pages_of, length-over}
-use Rattle.pg_io.proofs.PagerFacts.{bytes_after, page_fits}
+use Rattle.pg_io.proofs.PagerFacts.{bytes_after, page_within, told_of}
 use Rattle.pg_io.proofs.mem_pager.MemPagerPager.write_page.Goals as goal
-
-pub returns-then-call_fails-clause-wrote : goal.returns-then-call_fails-clause-wrote
-returns-then-call_fails-clause-wrote c = record {
-  pages = search rules;
-  reads = search rules;
-  faults = search rules;
-  outcome = search rules;
-  told = search rules;
-}
 
 pub returns-clause-wrote : goal.returns-clause-wrote
 returns-clause-wrote c =
-    let old = c.args.self.now.bytes in
+    let old = c.args.self.now in
     let from = c.args.from.now in
-    let at = c.args.page * page_size in
+    let at = c.args.page * old.page_size in
     let inside = c.requires.inside in
     let whole = c.requires.whole in
     let kept = ap (λ (p : MemPagerNow). p.bytes) c.self.view_is ∙ ap (λ (p : MemPagerNow). p.bytes) c.call_fails.ensures.counts in
-    let long : c.self.inside.bytes.len ≡ length old = sym c.deref_mut.ensures.len ∙ ap length (c.deref_mut.ensures.value ∙ kept) in
-    let now = bytes_after c.self.inside.bytes.len old c.self.inside.bytes.items c.deref_mut.result.now c.put_at.new.bytes from c.args.page inside whole
-    (c.deref_mut.ensures.value ∙ kept) long c.put_at.ensures in
-    let made : c.self.inside.calls.made ≡ next_count c.args.self.now.made = search rules in
-    let fails : c.self.inside.calls.fails.items ≡ c.args.self.now.fails = search rules in
+    let size : c.self.inside.page_size ≡ old.page_size = ap (λ (p : MemPagerNow). p.page_size) c.self.view_is ∙ ap (λ (p : MemPagerNow). p.page_size) c.call_fails.ensures.counts in
+    let long : c.self.inside.bytes.len ≡ length old.bytes = sym c.deref_mut.ensures.len ∙ ap length (c.deref_mut.ensures.value ∙ kept) in
+    let puts = c.put_bytes.ensures.after ∙ ap (λ s. written_over c.deref_mut.result.now (c.args.page * s) from) size in
+    let now = bytes_after old.page_size c.self.inside.bytes.len old.bytes c.self.inside.bytes.items c.deref_mut.result.now c.put_bytes.new.bytes from c.args.page inside whole
+    (c.deref_mut.ensures.value ∙ kept) long puts in
+    let made : c.self.inside.calls.made ≡ next_count old.made = search rules in
+    let fails : c.self.inside.calls.fails.items ≡ old.fails = search rules in
+    let many : length (written_over old.bytes at from) ≡ length old.bytes = length-over old.bytes from at (page_within old.page_size old.bytes from c.args.page inside whole) in
     record {
-      pages = ap (λ b. length b / page_size) now ∙ ap (λ n. n / page_size) (length-over old from at (page_fits old from c.args.page inside whole));
+      pages = ap (λ (b : List _). length b / c.self.inside.page_size) now ∙ ap (λ n. n / c.self.inside.page_size) many ∙ ap (λ s. length old.bytes / s) size;
+      page_size = size;
       reads = search rules;
       faults = search rules;
       outcome = search rules;
-      told =
-          ap (λ b. Some (record { holds = pages_of b; made = c.self.inside.calls.made; fails = c.self.inside.calls.fails.items })) now
-          ∙ ap (λ h. Some (record { holds = h; made = c.self.inside.calls.made; fails = c.self.inside.calls.fails.items })) (set-pages_of old from c.args.page inside whole)
-          ∙ ap (λ m. Some (record { holds = slice_set (pages_of old) c.args.page from; made = m; fails = c.self.inside.calls.fails.items })) made
-          ∙ ap (λ f. Some (record { holds = slice_set (pages_of old) c.args.page from; made = next_count c.args.self.now.made; fails = f })) fails;
+      told = told_of _ _ _ _ _ _ _ _ now size made fails
+          ∙ ap (λ h. Some (record { holds = h; made = next_count old.made; fails = old.fails })) (set-pages_of old.page_size old.bytes from c.args.page inside whole);
     }
