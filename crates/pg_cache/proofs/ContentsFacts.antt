@@ -4,8 +4,8 @@ use Rattle.std.specs.Prelude.{Option, IfSome, slice_get, slice_set, if◌then◌
 use Rattle.std.specs.Option.{option_map}
 use Rattle.std.proofs.lemmas.Grind.{common_steps}
 use Rattle.std.proofs.lemmas.Option.{slice_get_within, get_or_from_slice_get, slice_get-get_or}
-use Rattle.pg_io.specs.Pager.{PagerNow, ToldPages, TellsWhole, after_call, with_page, page_size}
-use Rattle.pg_io.specs.MemPages.{written_over}
+use Rattle.pg_io.specs.Pager.{PagerNow, ToldPages, TellsWhole, after_call, with_page}
+use Rattle.pg_io.specs.PageBytes.{written_over}
 use Rattle.pg_cache.specs.Held.{Held, find_held, without, changed, dirtied, cleaned}
 use Rattle.pg_cache.specs.Cache.{IsKept, AreKept, IsSaved}
 use Rattle.pg_cache.specs.Contents.{bytes_or, overlaid, with_piece}
@@ -104,7 +104,7 @@ saved-clean pages None v kept is_clean = tt
 saved-clean pages (Some t) v kept is_clean = λ b there. let e = sym there ∙ kept.agrees is_clean in cc
 
 -- a resident page went to the front
-find-front : (held : List Held) (page : ℕ) (entry : Held) (q : ℕ) → find_held held page ≡ Some entry → find_held (entry ∷ without held page) q ≡ find_held held q
+pub find-front : (held : List Held) (page : ℕ) (entry : Held) (q : ℕ) → find_held held page ≡ Some entry → find_held (entry ∷ without held page) q ≡ find_held held q
 find-front held page entry q found = front_of (entry.page == q) refl
   where
     number : entry.page ≡ page
@@ -215,7 +215,7 @@ now-written_absent held (Some t) page at piece whole absent was =
 
 -- ---- what is known of them
 
-length-overlaid : (held : List Held) (from : ℕ) (pages : List (List ℕ)) → length (overlaid held from pages) ≡ length pages
+pub length-overlaid : (held : List Held) (from : ℕ) (pages : List (List ℕ)) → length (overlaid held from pages) ≡ length pages
 length-overlaid held from [] = refl
 length-overlaid held from (b ∷ bs) = ap suc (length-overlaid held (suc from) bs)
 
@@ -226,7 +226,7 @@ length-now held pager count whole same = length_of pager.told whole
     length_of None w = tt
     length_of (Some t) w = length-overlaid held 0 t.holds ∙ w.0 ∙ sym same
 
-get-overlaid : (held : List Held) (from i page : ℕ) (pages : List (List ℕ)) (b : List ℕ) → page ≡ from + i → slice_get pages i ≡ Some b → slice_get (overlaid held from pages) i ≡ Some (bytes_or (find_held held page) b)
+pub get-overlaid : (held : List Held) (from i page : ℕ) (pages : List (List ℕ)) (b : List ℕ) → page ≡ from + i → slice_get pages i ≡ Some b → slice_get (overlaid held from pages) i ≡ Some (bytes_or (find_held held page) b)
 get-overlaid held from i page [] b at there = absurd (cc)
 get-overlaid held from zero page (x ∷ xs) b at there =
     let same : x ≡ b = cc in
@@ -271,7 +271,7 @@ pub whole_over : (b whole : List ℕ) → length b ≤ length whole → written_
 whole_over b whole short =
     ap (λ (l : List ℕ). whole ++ l) (drop_of_length-le b {i = 0 + length whole} (omega arith)) ∙ append-nil whole
 
-pub whole_was : (pager : PagerNow) (page : ℕ) (whole : List ℕ) → TellsWhole pager → length whole ≡ page_size → IfSome pager.told (λ t. (b : List ℕ) → slice_get t.holds page ≡ Some b → written_over b 0 whole ≡ whole)
+pub whole_was : (pager : PagerNow) (page : ℕ) (whole : List ℕ) → TellsWhole pager → length whole ≡ pager.page_size → IfSome pager.told (λ t. (b : List ℕ) → slice_get t.holds page ≡ Some b → written_over b 0 whole ≡ whole)
 whole_was pager page whole tells long = was_of pager.told tells
   where
     was_of : (told : Option ToldPages) → TellsWhole (record pager { told = told }) → IfSome told (λ t. (b : List ℕ) → slice_get t.holds page ≡ Some b → written_over b 0 whole ≡ whole)
@@ -280,7 +280,7 @@ whole_was pager page whole tells long = was_of pager.told tells
         let inside = slice_get_within t.holds page b there in
         let here = get_or_from_slice_get t.holds page b [] there in
         let size = w.1 page [] inside in
-        let short : length b ≡ page_size = sym (ap length here) ∙ size in
+        let short : length b ≡ pager.page_size = sym (ap length here) ∙ size in
         whole_over b whole (omega arith)
 
 pub map-changed : (change : Held → Held) (held : List Held) (page : ℕ) → ((h : Held) → (change h).page ≡ h.page) → map (λ (h : Held). h.page) (changed change held page) ≡ map (λ (h : Held). h.page) held

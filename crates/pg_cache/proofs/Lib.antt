@@ -1,4 +1,11 @@
+pub mod BringFacts
+pub mod ChangeFacts
 pub mod ContentsFacts
+pub mod GiveFacts
 pub mod HeldFacts
+pub mod Laws
+pub mod MadeLaws
+pub mod ListFacts
+pub mod SizeFacts
 pub mod SoundFacts
 pub mod StepFacts

@@ -8,9 +8,9 @@ use Rattle.std.proofs.lemmas.Option.{slice_get_past}
 use Rattle.pg_cache.specs.Steps.{Saves, WritesBack, WritesThrough, Evicts, Leaves, Fills, Enters, TakesPlace, Brings}
 use Rattle.pg_cache.specs.declared.fault.PagerFault.{PagerFault}
 use Rattle.pg_io.specs.Pager.{PagerNow, ToldPages, TellsWhole, IsRead, IsWrite, after_call, with_page}
-use Rattle.pg_io.specs.MemPages.{written_over}
+use Rattle.pg_io.specs.PageBytes.{written_over}
 use Rattle.pg_cache.specs.Held.{Held, clean, find_held, without, fronted, fronted_by, changed, dirtied, cleaned}
-use Rattle.pg_cache.specs.Cache.{CacheNow, AreKept, IsBeside, IsSound, spare_of}
+use Rattle.pg_cache.specs.Cache.{CacheNow, AreKept, IsBeside, IsListed, spare_of}
 use Rattle.pg_cache.proofs.HeldFacts.{found_page, changed-absent, absent-without, absent-take, absent-changed}
 use Rattle.pg_cache.proofs.SoundFacts.{kept_map, kept_find, kept_without, gone_without, kept_take, kept_changed, length-without, length-changed, absent_front, told_written, kept_called, kept_written, kept_absent_written, kept_dirty, kept_saved, get-set_same}
 
@@ -19,7 +19,7 @@ beside_map pages pages' told told' all all' None step beside = tt
 beside_map pages pages' told told' all all' (Some h) step beside = step h beside
 
 -- a resident page goes to the front
-pub fronted_sound : (c : CacheNow) (page : ℕ) (entry : Held) → IsSound c → find_held c.held page ≡ Some entry → IsSound (record c { held = entry ∷ without c.held page })
+pub fronted_sound : (c : CacheNow) (page : ℕ) (entry : Held) → IsListed c → find_held c.held page ≡ Some entry → IsListed (record c { held = entry ∷ without c.held page })
 fronted_sound c page entry sound found =
     let number = found_page c.held page entry found in
     let long = length-without c.held page entry found in
@@ -37,7 +37,7 @@ fronted_sound c page entry sound found =
     }
 
 -- a page leaves the list
-pub without_sound : (c : CacheNow) (page : ℕ) (entry : Held) → IsSound c → find_held c.held page ≡ Some entry → IsSound (record c { held = without c.held page })
+pub without_sound : (c : CacheNow) (page : ℕ) (entry : Held) → IsListed c → find_held c.held page ≡ Some entry → IsListed (record c { held = without c.held page })
 without_sound c page entry sound found =
     let long = length-without c.held page entry found in
     let limited = sound.limited in
@@ -50,7 +50,7 @@ without_sound c page entry sound found =
     }
 
 -- bytes are put into a page of the list
-pub put_sound : (c : CacheNow) (page at : ℕ) (bytes : List ℕ) → IsSound c → IsSound (record c { held = changed (dirtied at bytes) c.held page })
+pub put_sound : (c : CacheNow) (page at : ℕ) (bytes : List ℕ) → IsListed c → IsListed (record c { held = changed (dirtied at bytes) c.held page })
 put_sound c page at bytes sound =
     let long = length-changed (dirtied at bytes) c.held page in
     let limited = sound.limited in
@@ -69,7 +69,7 @@ put_sound c page at bytes sound =
     dirty_agrees (Some t) h = λ is_clean. absurd (cc)
 
 -- the page in the spare buffer enters
-pub entered_sound : (c : CacheNow) (h : Held) → IsSound c → c.spare ≡ Some h → IsSound (record { held = h ∷ take (c.limit - 1) c.held; limit = c.limit; spare = None; pager = c.pager })
+pub entered_sound : (c : CacheNow) (h : Held) → IsListed c → c.spare ≡ Some h → IsListed (record { held = h ∷ take (c.limit - 1) c.held; limit = c.limit; spare = None; pager = c.pager })
 entered_sound c h sound stands =
     let b : IsBeside c.pager.pages c.pager.told c.held h = subst (λ s. IfSome s (IsBeside c.pager.pages c.pager.told c.held)) stands sound.beside in
     let long = length-take (c.limit - 1) c.held in
@@ -91,8 +91,8 @@ read_beside pages told held page true bytes absent inside content = tt
 read_beside pages None held page false bytes absent inside content = record { kept = record { inside = inside; agrees = tt }; is_clean = refl; absent = absent }
 read_beside pages (Some t) held page false bytes absent inside content = record { kept = record { inside = inside; agrees = λ _. content refl }; is_clean = refl; absent = absent }
 
-pub read_sound : (c : CacheNow) (page : ℕ) (failed : Bool) (bytes : List ℕ) (pager : PagerNow) → IsSound c → find_held c.held page ≡ None → page < c.pager.pages → IsRead c.pager page failed bytes pager
-    → IsSound (record { held = c.held; limit = c.limit; spare = spare_after failed page bytes; pager = pager })
+pub read_sound : (c : CacheNow) (page : ℕ) (failed : Bool) (bytes : List ℕ) (pager : PagerNow) → IsListed c → find_held c.held page ≡ None → page < c.pager.pages → IsRead c.pager page failed bytes pager
+    → IsListed (record { held = c.held; limit = c.limit; spare = spare_after failed page bytes; pager = pager })
 read_sound c page failed bytes pager sound absent inside read = record {
   limited = sound.limited;
   some = sound.some;
@@ -101,7 +101,7 @@ read_sound c page failed bytes pager sound absent inside read = record {
 }
 
 -- a dirty page of the list is written back
-pub saved_sound : (c : CacheNow) (v : Held) (failed : Bool) (pager : PagerNow) → IsSound c → v.dirty ≡ true → find_held c.held v.page ≡ Some v → IsWrite c.pager v.page failed v.bytes pager → IsSound (record c { pager = pager })
+pub saved_sound : (c : CacheNow) (v : Held) (failed : Bool) (pager : PagerNow) → IsListed c → v.dirty ≡ true → find_held c.held v.page ≡ Some v → IsWrite c.pager v.page failed v.bytes pager → IsListed (record c { pager = pager })
 saved_sound c v failed pager sound is_dirty found write = record {
   limited = sound.limited;
   some = sound.some;
@@ -113,8 +113,8 @@ saved_sound c v failed pager sound is_dirty found write = record {
 }
 
 -- a page that is not in the list is written through
-pub through_sound : (c : CacheNow) (page : ℕ) (bytes : List ℕ) (failed : Bool) (pager : PagerNow) → IsSound c → find_held c.held page ≡ None → IsWrite c.pager page failed bytes pager
-    → IsSound (record { held = c.held; limit = c.limit; spare = None; pager = pager })
+pub through_sound : (c : CacheNow) (page : ℕ) (bytes : List ℕ) (failed : Bool) (pager : PagerNow) → IsListed c → find_held c.held page ≡ None → IsWrite c.pager page failed bytes pager
+    → IsListed (record { held = c.held; limit = c.limit; spare = None; pager = pager })
 through_sound c page bytes failed pager sound absent write = record {
   limited = sound.limited;
   some = sound.some;
@@ -123,8 +123,8 @@ through_sound c page bytes failed pager sound absent write = record {
 }
 
 -- a write through of any page failed
-pub unwritten_sound : (c : CacheNow) (page : ℕ) (bytes : List ℕ) (pager : PagerNow) → IsSound c → IsWrite c.pager page true bytes pager
-    → IsSound (record { held = c.held; limit = c.limit; spare = None; pager = pager })
+pub unwritten_sound : (c : CacheNow) (page : ℕ) (bytes : List ℕ) (pager : PagerNow) → IsListed c → IsWrite c.pager page true bytes pager
+    → IsListed (record { held = c.held; limit = c.limit; spare = None; pager = pager })
 unwritten_sound c page bytes pager sound write = record {
   limited = sound.limited;
   some = sound.some;
@@ -161,8 +161,8 @@ tells_inside pager page inside whole = told_of pager.told whole
     told_of None whole = tt
     told_of (Some t) whole = let e = whole.0 in omega arith
 
-pub written_sound : (c : CacheNow) (page : ℕ) (bytes : List ℕ) (pager : PagerNow) → IsSound c → page < c.pager.pages → TellsWhole c.pager → IsWrite c.pager page false bytes pager
-    → IsSound (record { held = changed (cleaned bytes) c.held page; limit = c.limit; spare = None; pager = pager })
+pub written_sound : (c : CacheNow) (page : ℕ) (bytes : List ℕ) (pager : PagerNow) → IsListed c → page < c.pager.pages → TellsWhole c.pager → IsWrite c.pager page false bytes pager
+    → IsListed (record { held = changed (cleaned bytes) c.held page; limit = c.limit; spare = None; pager = pager })
 written_sound c page bytes pager sound inside whole write =
     let long = length-changed (cleaned bytes) c.held page in
     let limited = sound.limited in
@@ -175,11 +175,11 @@ written_sound c page bytes pager sound inside whole write =
 
 -- ---- the same, for lists and pages that are equal
 
-pub with_held : (limit : ℕ) (spare : Option Held) (pager : PagerNow) (held held' : List Held) → held' ≡ held → IsSound (record { held = held; limit = limit; spare = spare; pager = pager }) → IsSound (record { held = held'; limit = limit; spare = spare; pager = pager })
-with_held limit spare pager held held' same sound = subst (λ (l : List Held). IsSound (record { held = l; limit = limit; spare = spare; pager = pager })) (sym same) sound
+pub with_held : (limit : ℕ) (spare : Option Held) (pager : PagerNow) (held held' : List Held) → held' ≡ held → IsListed (record { held = held; limit = limit; spare = spare; pager = pager }) → IsListed (record { held = held'; limit = limit; spare = spare; pager = pager })
+with_held limit spare pager held held' same sound = subst (λ (l : List Held). IsListed (record { held = l; limit = limit; spare = spare; pager = pager })) (sym same) sound
 
-pub with_spare : (held : List Held) (limit : ℕ) (pager : PagerNow) (h h' : Held) → h' ≡ h → IsSound (record { held = held; limit = limit; spare = Some h; pager = pager }) → IsSound (record { held = held; limit = limit; spare = Some h'; pager = pager })
-with_spare held limit pager h h' same sound = subst (λ (x : Held). IsSound (record { held = held; limit = limit; spare = Some x; pager = pager })) (sym same) sound
+pub with_spare : (held : List Held) (limit : ℕ) (pager : PagerNow) (h h' : Held) → h' ≡ h → IsListed (record { held = held; limit = limit; spare = Some h; pager = pager }) → IsListed (record { held = held; limit = limit; spare = Some h'; pager = pager })
+with_spare held limit pager h h' same sound = subst (λ (x : Held). IsListed (record { held = held; limit = limit; spare = Some x; pager = pager })) (sym same) sound
 
 -- a call that is known to have failed, or not
 pub read_as : (old : PagerNow) (page : ℕ) (failed failed' : Bool) (bytes : List ℕ) (new : PagerNow) → failed ≡ failed' → IsRead old page failed bytes new → IsRead old page failed' bytes new
@@ -273,6 +273,7 @@ evicts_ok old saved new page entry found saves leaves =
       saved = saved;
       saves = saves;
       leaves = leaves ∙ ap (λ p. record saved { held = without saved.held p }) (sym (found_page old.held page entry found));
+      answer = refl;
     })
 
 -- the page in the spare buffer was written through, with bytes written over a part of it

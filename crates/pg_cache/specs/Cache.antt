@@ -1,7 +1,8 @@
 -- A page cache as it is seen: which pages are resident, and what every page holds now.
-use Rattle.std.specs.Prelude.{ℕ, ◌≡◌, ◌-◌, ◌<◌, ◌≤◌, ◌==◌, List, [], ◌∷◌, length, map, filter, false, Option, Some, None, IfSome, slice_get, if◌then◌else◌}
-use Rattle.std.specs.Option.{option_map}
-use Rattle.pg_io.specs.Pager.{PagerNow, ToldPages}
+use Rattle.std.specs.Prelude.{ℕ, ◌≡◌, ◌-◌, ◌<◌, ◌≤◌, ◌==◌, List, [], ◌∷◌, All, length, map, Bool, false, IsTrue, Option, Some, None, IfSome, slice_get, if◌then◌else◌}
+use Rattle.std.specs.Option.{option_map, option_map_or}
+use Rattle.pg_io.specs.PageBytes.{is_page_size}
+use Rattle.pg_io.specs.Pager.{PagerNow, ToldPages, TellsWhole}
 use Rattle.pg_cache.specs.Held.{Held, find_held}
 use Rattle.pg_cache.specs.Contents.{overlaid}
 
@@ -22,9 +23,21 @@ resident cache = map (λ held. held.page) cache.held
 abbrev pub resident_page : CacheNow → ℕ → Option Held
 resident_page cache = find_held cache.held
 
--- the numbers of the dirty pages, most recent first
-abbrev pub dirty_pages : CacheNow → List ℕ
-dirty_pages cache = map (λ held. held.page) (filter (λ held. held.dirty) cache.held)
+-- a resident page by its number, and whether it is dirty: the pager does not have its bytes yet
+pub record Resident : Type 0 where
+  pub page : ℕ
+  pub dirty : Bool
+
+abbrev pub resident_of : Held → Resident
+resident_of held = record { page = held.page; dirty = held.dirty }
+
+-- the resident pages in that way, most recent first
+abbrev pub residents : CacheNow → List Resident
+residents cache = map resident_of cache.held
+
+-- whether the page is resident and dirty
+abbrev pub is_dirty : CacheNow → ℕ → Bool
+is_dirty cache page = option_map_or (λ held. held.dirty) (resident_page cache page) false
 
 -- What every page holds now, where the pager tells: the pager's pages, and over them the resident ones.
 abbrev pub contents : CacheNow → Option (List (List ℕ))
@@ -78,9 +91,32 @@ pub record IsBeside (pages : ℕ) (told : Option ToldPages) (all : List Held) (h
   pub is_clean : held.dirty ≡ false
   pub absent : find_held all held.page ≡ None
 
--- what is true of every cache
-pub record IsSound (cache : CacheNow) : Type 0 where
+-- the page has as many bytes as a page has
+abbrev pub IsWhole : ℕ → Held → Type 0
+IsWhole size held = length held.bytes ≡ size
+
+-- Which pages stand in the list and in the spare buffer, and what the pager has of them.
+pub record IsListed (cache : CacheNow) : Type 0 where
   pub limited : length cache.held ≤ cache.limit
   pub some : 0 < cache.limit
   pub kept : AreKept cache.pager.pages cache.pager.told cache.held
   pub beside : IfSome cache.spare (IsBeside cache.pager.pages cache.pager.told cache.held)
+
+-- How many pages may be resident, and that each page, here and as it is told, is whole.
+pub record IsSized (cache : CacheNow) : Type 0 where
+  pub most : cache.limit ≤ 4096
+  pub size : IsTrue (is_page_size cache.pager.page_size)
+  pub whole : All (IsWhole cache.pager.page_size) cache.held
+  pub spare : IfSome cache.spare (IsWhole cache.pager.page_size)
+  pub tells : TellsWhole cache.pager
+
+-- What is true of every cache.
+pub record IsSound (cache : CacheNow) : Type 0 where
+  pub listed : IsListed cache
+  pub sized : IsSized cache
+
+-- the limit stays, and how many pages the file has, and their size
+pub record KeepsSizes (old new : CacheNow) : Type 0 where
+  pub limit : new.limit ≡ old.limit
+  pub pages : new.pager.pages ≡ old.pager.pages
+  pub page_size : new.pager.page_size ≡ old.pager.page_size

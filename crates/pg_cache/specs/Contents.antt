@@ -1,6 +1,6 @@
 -- What pages hold where some of them are resident.
 use Rattle.std.specs.Prelude.{ℕ, suc, List, [], ◌∷◌, Option, Some, None, slice_set, slice_index_or}
-use Rattle.pg_io.specs.MemPages.{written_over}
+use Rattle.pg_io.specs.PageBytes.{written_over}
 use Rattle.pg_cache.specs.Held.{Held, find_held}
 
 -- the bytes of a page, or else these

@@ -1,6 +1,6 @@
 -- Lists of pages with their bytes.
 use Rattle.std.specs.Prelude.{ℕ, ◌==◌, List, [], ◌∷◌, Bool, true, false, Option, Some, None, if◌then◌else◌}
-use Rattle.pg_io.specs.MemPages.{written_over}
+use Rattle.pg_io.specs.PageBytes.{written_over}
 
 -- a page with its bytes
 pub record Held : Type 0 where

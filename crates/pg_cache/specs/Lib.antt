@@ -2,6 +2,9 @@ pub mod Held
 pub mod Contents
 pub mod Cache
 pub mod Steps
+pub mod Gives
+pub mod Finds
+pub use Rattle.pg_io.specs.PageBytes
 pub use Rattle.pg_io.specs.Pager
 pub mod Place
 pub mod Buffers

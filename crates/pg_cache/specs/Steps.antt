@@ -1,11 +1,10 @@
--- What each call of a cache does: which pager calls it makes, and what stands afterwards.
-use Rattle.std.specs.Prelude.{ℕ, ◌≡◌, ◌-◌, List, ◌∷◌, length, take, Bool, true, false, MatchBool, Option, Some, None, MatchOption, IfSome, Result, Ok, Err, IfOk, IfErr, nat_le, slice_get, is_err, if◌then◌else◌}
+-- The steps of each call of a cache: which pager calls it makes, and the whole cache afterwards.
+use Rattle.std.specs.Prelude.{ℕ, ◌≡◌, ◌-◌, List, ◌∷◌, length, take, Bool, true, false, MatchBool, Option, Some, None, MatchOption, IfSome, Result, Ok, Err, IfOk, IfErr, nat_le, is_err, if◌then◌else◌}
 use Rattle.std.specs.Option.{option_map}
-use Rattle.pg_io.specs.Pager.{page_size, FaultsAfter, IsRead, IsWrite}
-use Rattle.pg_io.specs.MemPages.{written_over}
+use Rattle.pg_io.specs.Pager.{IsRead, IsWrite}
+use Rattle.pg_io.specs.PageBytes.{written_over}
 use Rattle.pg_cache.specs.Held.{Held, clean, without, changed, fronted, cleaned}
-use Rattle.pg_cache.specs.Cache.{CacheNow, resident_page, in_spare, at_hand, victim, contents}
-use Rattle.std.specs.Borrow.{Bor}
+use Rattle.pg_cache.specs.Cache.{CacheNow, resident_page, in_spare, victim}
 use Rattle.pg_cache.specs.declared.fault.PagerFault.{PagerFault}
 
 -- One read of a page into the spare buffer. Where it failed, nothing stands there.
@@ -13,6 +12,7 @@ pub record ReadsSpare (old : CacheNow) (page : ℕ) (failed : Bool) (new : Cache
   -- what was read
   pub bytes : List ℕ
   pub read : IsRead old.pager page failed bytes new.pager
+  pub whole : length bytes ≡ old.pager.page_size
   pub spare : new.spare ≡ (if failed then None else Some (clean page bytes))
   pub held : new.held ≡ old.held
   pub limit : new.limit ≡ old.limit
@@ -37,16 +37,6 @@ pub record WritesThrough (old : CacheNow) (page : ℕ) (bytes : List ℕ) (faile
 -- Peek: no call for a resident page, and one read of another.
 abbrev pub Peeks : CacheNow → ℕ → Bool → CacheNow → Type 0
 Peeks old page failed new = MatchOption (resident_page old page) (ReadsSpare old page failed new) (λ _. (failed ≡ false) × (new ≡ old))
-
--- Peek: what it answers, and the cache after it.
-pub record PeekGives (old : CacheNow) (page : ℕ) (result : Result (Bor (List ℕ)) PagerFault) (new : CacheNow) : Type 0 where
-  pub peeks : Peeks old page (is_err result) new
-  pub bytes : IfOk result (λ bytes. option_map (λ held. held.bytes) (at_hand new page) ≡ Some bytes.now)
-  pub fault : IfErr result (λ fault. fault.page ≡ page)
-  -- where the content is told, these are the page's bytes in it, and it stays
-  pub known : IfOk result (λ bytes. IfSome (contents old) (λ pages. slice_get pages page ≡ Some bytes.now))
-  pub unchanged : contents new ≡ contents old
-  pub faults : FaultsAfter (is_err result) old.pager.faults new.pager.faults
 
 -- The page is brought to the spare buffer: no call where it stands there, else one read.
 abbrev pub Fills : CacheNow → ℕ → Bool → CacheNow → Type 0
@@ -96,7 +86,7 @@ pub record ReadsAndWrites (old : CacheNow) (page at : ℕ) (bytes : List ℕ) (f
 -- Write: of a resident page the whole new page; of another the data where they are a whole page.
 abbrev pub Writes : CacheNow → ℕ → ℕ → List ℕ → Bool → CacheNow → Type 0
 Writes old page at bytes failed new = MatchOption (resident_page old page)
-    (MatchBool (nat_le page_size (length bytes)) (WritesThrough old page bytes failed new) (ReadsAndWrites old page at bytes failed new))
+    (MatchBool (nat_le old.pager.page_size (length bytes)) (WritesThrough old page bytes failed new) (ReadsAndWrites old page at bytes failed new))
     (λ held. WritesThrough old page (written_over held.bytes at bytes) failed new)
 
 -- Evict: the page is saved and leaves the list.
@@ -104,6 +94,7 @@ pub record Leaves (old : CacheNow) (held : Held) (result : Result Bool PagerFaul
   pub saved : CacheNow
   pub saves : Saves old held (is_err result) saved
   pub leaves : new ≡ (if is_err result then saved else record saved { held = without saved.held held.page })
+  pub answer : IfOk result (λ left. left ≡ true)
 
 abbrev pub Evicts : CacheNow → ℕ → Result Bool PagerFault → CacheNow → Type 0
 Evicts old page result new = MatchOption (resident_page old page) ((result ≡ Ok false) × (new ≡ old)) (λ held. Leaves old held result new)

@@ -1,10 +1,9 @@
-ghost use Rattle.std.specs.Prelude.{◌≡◌, ◌+◌, ◌<◌, ◌≤◌, length, vec_len, IfOk, is_err};
-ghost use Rattle.pg_io.specs.Pager.{page_size, PagerNow, IsRead, IsWrite};
-ghost use Rattle.pg_io.specs.MemPages.{written_over};
-ghost use Rattle.pg_cache.specs.Held.{Held, clean, dirtied};
+ghost use Rattle.std.specs.Prelude.{◌≡◌, ◌+◌, ◌<◌, ◌≤◌, length, IfOk, is_err};
+ghost use Rattle.pg_io.specs.Pager.{IsRead, IsWrite};
+ghost use Rattle.pg_cache.specs.Held.{clean, dirtied};
 
 use crate::NoMemory;
-use pg_io::{Failed, PAGE_SIZE, Pager};
+use pg_io::{Failed, PageBuffer, Pager};
 use std::alloc::Global;
 use std::marker::Model;
 
@@ -13,28 +12,26 @@ use std::marker::Model;
 pub(crate) struct Page {
     number: u64,
     dirty: bool,
-    bytes: Vec<u8>,
+    bytes: PageBuffer,
 }
 
 impl Model for Page {
-    ghost use Rattle.std.specs.Prelude.{◌≡◌, vec_len};
-    ghost use Rattle.pg_io.specs.Pager.{page_size};
     ghost use Rattle.pg_cache.specs.Held.{Held};
 
     ghost Value = { Held };
 
-    ghost view = { λ page. record { page = page.number; bytes = page.bytes.items; dirty = page.dirty } };
-
-    ghost invariant = { λ page. vec_len page.bytes ≡ page_size };
+    ghost view = { λ page. record { page = page.number; bytes = page.bytes; dirty = page.dirty } };
 }
 
 impl Page {
-    // A buffer of zeros.
-    pub(crate) fn new(alloc: Global) -> Result<Page, NoMemory> {
+    // A buffer of so many zeros.
+    pub(crate) fn new(alloc: Global, page_size: u32) -> Result<Page, NoMemory>
+        ensures { IfOk result (λ page. length page.bytes ≡ page_size) }
+    {
         Ok(Page {
             number: 0,
             dirty: false,
-            bytes: zeros(alloc)?,
+            bytes: PageBuffer::zeros(alloc, page_size)?,
         })
     }
 
@@ -51,61 +48,50 @@ impl Page {
     }
 
     pub(crate) fn bytes(&self) -> &[u8]
-        ensures bytes { result.now ≡ self.now.bytes }
-        ensures whole { length result.now ≡ page_size }
+        ensures { result.now ≡ self.now.bytes }
     {
-        &self.bytes
+        self.bytes.bytes()
     }
 
     // Writes these bytes over a part of the page, which is then dirty.
     pub(crate) fn put(&mut self, at: u32, bytes: &[u8])
-        requires { at + length bytes.now ≤ page_size }
-        ensures { self.new ≡ dirtied at bytes.now self.old }
+        requires { at + length bytes.now ≤ length self.old.bytes }
+        ensures put { self.new ≡ dirtied at bytes.now self.old }
+        ensures whole { length self.new.bytes ≡ length self.old.bytes }
     {
-        put_at(&mut self.bytes, at as usize, bytes);
+        self.bytes.put(at, bytes);
         self.dirty = true;
     }
 
     // Makes this the page of that number with these bytes.
     pub(crate) fn copy(&mut self, number: u64, bytes: &[u8])
-        requires { length bytes.now ≡ page_size }
+        requires { length bytes.now ≡ length self.old.bytes }
         ensures { self.new ≡ clean number bytes.now }
     {
         self.number = number;
         self.dirty = false;
-        put_at(&mut self.bytes, 0, bytes);
+        self.bytes.fill(bytes);
     }
 
     // Reads a page into the buffer. After an `Err` any bytes may stand there.
     pub(crate) fn read<P: Pager>(&mut self, pager: &mut P, page: u64) -> Result<(), Failed>
-        requires { page < (P.shows pager.old).pages }
+        requires inside { page < (P.shows pager.old).pages }
+        requires whole { length self.old.bytes ≡ (P.shows pager.old).page_size }
         ensures read { IsRead (P.shows pager.old) page (is_err result) self.new.bytes (P.shows pager.new) }
+        ensures whole { length self.new.bytes ≡ length self.old.bytes }
         ensures page { self.new ≡ clean page self.new.bytes }
     {
         self.number = page;
         self.dirty = false;
-        pager.read_page(page, &mut self.bytes)
+        self.bytes.read(pager, page)
     }
 
     // Writes the page to the pager.
     pub(crate) fn write<P: Pager>(&self, pager: &mut P) -> Result<(), Failed>
-        requires { self.now.page < (P.shows pager.old).pages }
+        requires inside { self.now.page < (P.shows pager.old).pages }
+        requires whole { length self.now.bytes ≡ (P.shows pager.old).page_size }
         ensures { IsWrite (P.shows pager.old) self.now.page (is_err result) self.now.bytes (P.shows pager.new) }
     {
-        pager.write_page(self.number, &self.bytes)
+        pager.write_page(self.number, self.bytes.bytes())
     }
-}
-
-fn zeros(alloc: Global) -> Result<Vec<u8>, NoMemory>
-    ensures { IfOk result (λ zeros. vec_len zeros ≡ page_size) }
-{
-    vec![in alloc; 0; PAGE_SIZE]
-}
-
-// Writes bytes over others at a place.
-fn put_at(bytes: &mut [u8], at: usize, from: &[u8])
-    requires { at + length from.now ≤ length bytes.old }
-    ensures { bytes.new ≡ written_over bytes.old at from.now }
-{
-    bytes[at..at + from.len()].copy_from_slice(from);
 }

@@ -1,10 +1,11 @@
 use pg_digest::Digest;
 
-/// Whether the present bytes of a page have the digest that is wanted.
+/// Whether the present bytes of a page have the digests that are wanted of its parts.
 #[derive(Clone, Copy, Debug, PartialEq, Eq)]
 pub enum Check {
-    /// They have the digest that is wanted.
+    /// Each part has its digest.
     Sealed,
-    /// They have the digest `found`, which is another.
-    NotSealed { found: Digest },
+    /// The part at this place, counted from 0, has the digest `found`, which is not its own. Each part before it has
+    /// its digest.
+    NotSealed { part: u32, found: Digest },
 }

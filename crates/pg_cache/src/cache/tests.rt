@@ -1,4 +1,5 @@
-ghost use Rattle.std.specs.Prelude.{◌<◌, ◌≤◌, IfSome, vec_len};
+ghost use Rattle.std.specs.Prelude.{◌<◌, ◌≤◌, IsTrue, IfSome, vec_len};
+ghost use Rattle.pg_io.specs.PageBytes.{is_page_size};
 
 use super::Cache;
 use crate::PagerFault;
@@ -7,18 +8,25 @@ use std::alloc::{AllocError, Global};
 use std::process::Abort;
 use std::test::Fail;
 
-// A cache over three pages in memory that begin with the bytes 10, 11 and 12.
-fn cache(alloc: Global, limit: u32, fails: u64) -> Result<Cache<MemPager>, AllocError>
+// A cache over three pages in memory of this size that begin with the bytes 10, 11 and 12.
+fn cache(
+    alloc: Global,
+    page_size: u32,
+    limit: u32,
+    fails: u64,
+) -> Result<Cache<MemPager>, AllocError>
+    requires size { IsTrue (is_page_size page_size) }
     requires some { 0 < limit }
     requires most { limit ≤ 4096 }
 {
-    let mut bytes = vec![in alloc; 0; 8193]?;
-    for (page, byte) in [(0, 10), (4096, 11), (8192, 12)] {
+    let size = page_size as usize;
+    let mut bytes = vec![in alloc; 0; 2 * size + 1]?;
+    for (page, byte) in [(0, 10), (size, 11), (2 * size, 12)] {
         if let Some(first) = bytes.get_mut(page) {
             *first = byte;
         }
     }
-    let pager = MemPager::new(bytes, vec![in alloc; fails]?)?;
+    let pager = MemPager::new(bytes, vec![in alloc; fails]?, page_size)?;
     Cache::open(alloc, pager, limit)
 }
 
@@ -40,7 +48,7 @@ fn run<P: Pager>(cache: &mut Cache<P>, call: Call) -> Result<Option<u64>, PagerF
             Ok(bytes.first().map(|byte| u64::from(*byte)))
         }
         Call::Bring(page) if page < pages => cache.bring(page),
-        Call::Put(page, byte) if cache.place(page).is_some() => {
+        Call::Put(page, byte) if cache.is_resident(page) => {
             cache.put(page, 0, &[byte]);
             Ok(None)
         }
@@ -215,7 +223,7 @@ const SCRIPT: [Call; 18] = [
 #[test]
 fn each_call_fails_in_turn(rt: HostRuntime) -> Result<(), Fail> {
     for fails in 0..16 {
-        let mut cache = cache(rt.alloc(), 2, fails)?;
+        let mut cache = cache(rt.alloc(), 4096, 2, fails)?;
         let mut plain = Plain {
             disk: vec![in rt.alloc(); 10, 11, 12]?,
             held: Vec::new(rt.alloc()),
@@ -265,13 +273,29 @@ fn rows_of_calls(rt: HostRuntime) -> Result<(), Fail> {
         (2, Call::Peek(0), Ok(Some(10))),
     ];
     let mut now = 0;
-    let mut used = cache(rt.alloc(), 1, now)?;
+    let mut used = cache(rt.alloc(), 16384, 1, now)?;
     for (fails, call, want) in rows {
         if fails != now {
-            used = cache(rt.alloc(), 1, fails)?;
+            used = cache(rt.alloc(), 16384, 1, fails)?;
             now = fails;
         }
         assert_eq!(rt; run(&mut used, call), want, "{call:?}, {fails} fails");
+    }
+    Ok(())
+}
+
+#[test]
+fn a_cache_tells_its_sizes(rt: HostRuntime) -> Result<(), Fail> {
+    for page_size in [4096, 16384] {
+        let mut used = cache(rt.alloc(), page_size, 2, 0)?;
+        assert_eq!(rt; used.limit(), 2);
+        assert_eq!(rt; used.pages(), 3);
+        assert_eq!(rt; used.page_size(), page_size);
+        assert_eq!(rt; used.spare(), None);
+        assert_eq!(rt; run(&mut used, Call::Peek(1)), Ok(Some(11)));
+        assert_eq!(rt; used.spare(), Some(1));
+        assert_eq!(rt; run(&mut used, Call::Bring(1)), Ok(None));
+        assert_eq!(rt; used.spare(), None);
     }
     Ok(())
 }

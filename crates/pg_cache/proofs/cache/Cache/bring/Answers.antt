@@ -1,16 +1,5 @@
-use Rattle.std.proofs.Common.{◌∙◌, ap, sym}
-use Rattle.std.specs.Prelude.{option_map}
-use Rattle.pg_cache.specs.Held.{Held}
-use Rattle.pg_cache.proofs.StepFacts.{brings_absent}
+use Rattle.pg_cache.proofs.BringFacts.{bring_gives}
 use Rattle.pg_cache.proofs.cache.Cache.bring.Goals as goal
 
-pub returns-clause-brings : goal.returns-clause-brings
-returns-clause-brings g c =
-    let absent = sym c.to_front.ensures.resident ∙ c.if-to_front.false in
-    brings_absent c.args.self.now c.to_front.new.self c.fill.new.self c.enter.new.self c.args.page _ absent c.to_front.ensures.fronts c.in_ok-fill.ensures.fills (record {
-      saved = c.save_victim.new.self;
-      saves = c.in_ok-save_victim.ensures.saves;
-      enters = c.enter.ensures.enters;
-      leaver = c.enter.ensures.leaver ∙ ap (option_map (λ (held : Held). held.page)) c.save_victim.ensures.victim;
-      fault = tt;
-    })
+pub returns : goal.returns
+returns g c = record { gives = bring_gives _ _ _ _ c.bring_in.ensures.sound c.requires c.bring_in.ensures.steps }

@@ -1,10 +1,9 @@
-use Rattle.std.proofs.Common.{◌≡◌, ◌∙◌, ◌∷◌, ◌-◌, take, ◌+◌, List, true, Some, None, ap, sym, subst, rules, length, vec_len}
-use Rattle.std.specs.Prelude.{IfSome, option_map, if◌then◌else◌}
+use Rattle.std.proofs.Common.{◌≡◌, ◌∙◌, ◌∷◌, ◌-◌, take, ◌+◌, true, Some, None, ap, subst, rules, length, vec_len}
+use Rattle.std.specs.Prelude.{option_map, if◌then◌else◌}
 use Rattle.pg_cache.specs.Held.{Held}
 use Rattle.pg_cache.specs.Cache.{CacheNow, victim}
 use Rattle.pg_cache.proofs.StepFacts.{entered_sound, with_held, leaver_of, stayers_of, count_of}
-use Rattle.pg_cache.specs.Cache.{contents, IsBeside, IsSaved}
-use Rattle.pg_cache.proofs.ContentsFacts.{now_of, now-entered}
+use Rattle.pg_cache.proofs.SizeFacts.{sized_with, entered_sized}
 use Rattle.pg_cache.proofs.cache.Cache.enter.Goals as goal
 
 pub invariant_of-self : goal.invariant_of-self
@@ -23,6 +22,9 @@ invariant_of-self g c =
           c.next_buffer-buffer.new.held.items long c.self.invariant.count c.self.invariant.sound.some grew stays (λ some. (next.free some).0) (λ none. (next.last none).0);
       held_room = search rules;
       free_room = search rules;
+      free_whole = (next.whole _ c.self.invariant.free_whole c.self.invariant.sized.whole).0;
+      spare_whole = ap (λ (b : Held). length b.bytes) c.replace-first.ensures.after ∙ (next.whole _ c.self.invariant.free_whole c.self.invariant.sized.whole).1;
+      sized = sized_with _ _ _ _ _ items (entered_sized _ h c.self.invariant.sized stands);
       sound = with_held _ _ _ _ _ items (entered_sound _ h c.self.invariant.sound stands);
     }
 
@@ -33,19 +35,3 @@ returns-clause-leaver g c =
     subst (λ (v : CacheNow). c.next_buffer-buffer.result.1 ≡ option_map (λ (held : Held). held.page) (victim v)) c.self.view_is
     (leaver_of c.self.inside.held.items (vec_len c.self.inside.held) c.self.inside.limit (vec_len c.self.inside.free) c.next_buffer-buffer.result.1
     long c.self.invariant.count c.self.invariant.sound.some (λ some. (next.free some).2) (λ none. (next.last none).2))
-
-pub returns-clause-contents : goal.returns-clause-contents
-returns-clause-contents g c =
-    let h = c.self.inside.spare in
-    let pager = g.P.Pager.shows c.self.inside.pager in
-    let has : c.self.inside.has_spare ≡ true = search rules in
-    let long : vec_len c.self.inside.held ≡ length c.self.inside.held.items = search rules in
-    let next = c.next_buffer-buffer.ensures in
-    let stays = stayers_of c.self.inside.held.items c.next_buffer-buffer.new.held.items (vec_len c.self.inside.held) c.self.inside.limit (vec_len c.self.inside.free)
-    long c.self.invariant.count c.self.invariant.sound.some (λ some. (next.free some).1) (λ none. (next.last none).1) in
-    let items : c.insert.new.self.items ≡ h ∷ take (c.self.inside.limit - 1) c.self.inside.held.items = search (rules, stays) in
-    let b = subst (λ has. IfSome (if has then Some h else None) (IsBeside pager.pages pager.told c.self.inside.held.items)) has c.self.invariant.sound.beside in
-    let saved = subst (λ (v : CacheNow). IfSome (victim v) (IsSaved v.pager.told)) (sym c.self.view_is) c.requires.saved in
-    ap (λ (l : List Held). now_of l pager.told) items
-    ∙ now-entered pager.pages c.self.inside.held.items c.self.inside.limit h pager.told c.self.invariant.sound.limited c.self.invariant.sound.some b.kept b.is_clean b.absent saved
-    ∙ ap contents c.self.view_is

@@ -14,4 +14,4 @@ pub returns-clause-place : goal.returns-clause-place
 returns-clause-place g c = placed c.args.self.now.held c.deref.result.now c.args.page c.position_of.result c.position_of.ensures (c.deref.ensures.value ∙ ap (λ (v : CacheNow). v.held) c.self.view_is)
 
 pub returns-clause-sound : goal.returns-clause-sound
-returns-clause-sound g c = subst IsSound c.self.view_is c.self.invariant.sound
+returns-clause-sound g c = subst IsSound c.self.view_is (record { listed = c.self.invariant.sound; sized = c.self.invariant.sized })

@@ -1,0 +1,3 @@
+pub mod CallFacts
+pub mod MarkFacts
+pub mod PartFacts
