@@ -1,5 +1,5 @@
 -- Once it was started, a process that is not guarded stays so.
-use Rattle.std.proofs.Common.{◌≡◌, ◌≢◌, ℕ, false, [], ◌∷◌, ◌++◌, ◌+◌, ◌&&◌, not, map, length, Option, Some, None, refl, ◌∙◌}
+use Rattle.std.proofs.Common.{◌≡◌, ◌≢◌, ℕ, false, ◌+◌, ◌&&◌, not, map, length, Option, Some, None, refl, ◌∙◌}
 use Rattle.std.specs.Prelude.{find, nat_lt}
 use Rattle.cs_policy.specs.declared.process.ProcEvent.{ProcEvent}
 use Rattle.cs_policy.specs.declared.process.ProcEvent.TheVariants.{Start, Insert, Resolve, Remove, Debug, Punish, ClearValid, Exit}
@@ -9,7 +9,7 @@ use Rattle.cs_policy.proofs.FlagFacts.{guarded-without_valid, guarded-with_kille
 use Rattle.pg_process.specs.declared.mapping.Mapping.{Mapping}
 use Rattle.pg_process.specs.declared.state.State.{State}
 use Rattle.pg_process.specs.declared.state.State.TheVariants.{Fresh, Alive, Killed, Gone}
-use Rattle.pg_process.specs.Regions.{met, least, begins_at}
+use Rattle.pg_process.specs.Regions.{met, least, begins_at, with_mapping}
 use Rattle.pg_process.specs.ProcessStep.{PlainProcess, next_id, row, started, inserted, removed}
 use Rattle.pg_process.proofs.StepFacts.{either_step, events_keep}
 use Rattle.pg_process.specs.Laws.{after_events, UnguardedStaysUnguarded}
@@ -28,7 +28,7 @@ started_kept Gone p begun kept = kept
 inserted_kept : (met : Option ℕ) (p : PlainProcess) (m : Mapping) → IsUnguarded p → IsUnguarded (inserted met p m).1
 inserted_kept (Some id) p m kept = kept
 inserted_kept None p m kept =
-    either_step IsUnguarded (nat_lt (length p.regions) 256) (reply.Inserted m.id, record p { made = p.made + 1; regions = p.regions ++ m ∷ [] }) (reply.Full 256, p)
+    either_step IsUnguarded (nat_lt (length p.regions) 256) (reply.Inserted m.id, record p { made = p.made + 1; regions = with_mapping m p.regions }) (reply.Full 256, p)
     (record { begun = kept.begun; unguarded = kept.unguarded }) kept
 
 removed_kept : (found : Option Mapping) (at : ℕ) (p : PlainProcess) → IsUnguarded p → IsUnguarded (removed found at p).1
@@ -39,7 +39,7 @@ row_kept : (p : PlainProcess) (e : ProcEvent) → IsUnguarded p → IsUnguarded 
 row_kept p Start kept = started_kept p.state p kept.begun kept
 row_kept p (Insert at file file_pages first pages prot shared) kept =
     let m : Mapping = record { at = at; id = next_id p; file = file; first = first; pages = pages; prot = prot; shared = shared } in
-    let overlapped = least (map (λ (o : Mapping). o.id) (met at pages p.regions)) in
+    let overlapped = least (map (λ (o : Mapping). o.id) (met p.page at pages p.regions)) in
     either_step IsUnguarded (nat_lt file_pages (first + pages)) (reply.OutOfFile file_pages, p) (inserted overlapped p m) kept (inserted_kept overlapped p m kept)
 row_kept p (Resolve addr access) kept = kept
 row_kept p (Remove at) kept = removed_kept (find (λ m. begins_at at m) p.regions) at p kept

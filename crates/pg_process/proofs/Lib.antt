@@ -3,4 +3,5 @@ pub mod GuardFacts
 pub mod ListFacts
 pub mod OverlapFacts
 pub mod ExitFacts
+pub mod OrderFacts
 pub mod ApartFacts

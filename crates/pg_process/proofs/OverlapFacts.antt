@@ -49,26 +49,26 @@ least_reached (x ∷ xs) n e =
     let same : fold min x xs ≡ n = cc in
     subst (λ (m : ℕ). Member m (x ∷ xs)) same (elim (min_reached x xs) [ inl f ↦ inl (sym f) | inr h ↦ inr h ])
 
-module _ (at pages : ℕ) where
+module _ (page at pages : ℕ) where
   -- a number of a region that is met
-  reached_by : (regions : List Mapping) (id : ℕ) → Member id (map (λ m. m.id) (met at pages regions)) → Any (λ m. (m.id ≡ id) × (is_met at pages m ≡ true)) regions
+  reached_by : (regions : List Mapping) (id : ℕ) → Member id (map (λ m. m.id) (met page at pages regions)) → Any (λ m. (m.id ≡ id) × (is_met page at pages m ≡ true)) regions
   reached_by [] id h = absurd h
   reached_by (m ∷ ms) id h =
-      elim (is_met at pages m) as (λ b. is_met at pages m ≡ b → Member id (map (λ (o : Mapping). o.id) (cond b (m ∷ met at pages ms) (met at pages ms))) → Any (λ o. (o.id ≡ id) × (is_met at pages o ≡ true)) (m ∷ ms)) [
+      elim (is_met page at pages m) as (λ b. is_met page at pages m ≡ b → Member id (map (λ (o : Mapping). o.id) (cond b (m ∷ met page at pages ms) (met page at pages ms))) → Any (λ o. (o.id ≡ id) × (is_met page at pages o ≡ true)) (m ∷ ms)) [
         | true ↦ λ is h. elim h [ inl e ↦ any_first _ m ms (e, is) | inr later ↦ any_later _ m ms (reached_by ms id later) ]
         | false ↦ λ is later. any_later _ m ms (reached_by ms id later)
       ] refl h
 
   -- each region that is met has no less a number
-  below_each : (regions : List Mapping) (id : ℕ) → AllByRecursion (λ n. id ≤ n) (map (λ m. m.id) (met at pages regions)) → AllByRecursion (λ m. is_met at pages m ≡ true → id ≤ m.id) regions
+  below_each : (regions : List Mapping) (id : ℕ) → AllByRecursion (λ n. id ≤ n) (map (λ m. m.id) (met page at pages regions)) → AllByRecursion (λ m. is_met page at pages m ≡ true → id ≤ m.id) regions
   below_each [] id h = tt
   below_each (m ∷ ms) id h =
-      elim (is_met at pages m) as (λ b. AllByRecursion (λ n. id ≤ n) (map (λ (o : Mapping). o.id) (cond b (m ∷ met at pages ms) (met at pages ms))) → (b ≡ true → id ≤ m.id) × AllByRecursion (λ o. is_met at pages o ≡ true → id ≤ o.id) ms) [
+      elim (is_met page at pages m) as (λ b. AllByRecursion (λ n. id ≤ n) (map (λ (o : Mapping). o.id) (cond b (m ∷ met page at pages ms) (met page at pages ms))) → (b ≡ true → id ≤ m.id) × AllByRecursion (λ o. is_met page at pages o ≡ true → id ≤ o.id) ms) [
         | true ↦ λ all. (λ is. all.0, below_each ms id all.1)
         | false ↦ λ all. (λ is. absurd cc, below_each ms id all)
       ] h
 
-  least_met_is : (regions : List Mapping) (id : ℕ) → least (map (λ m. m.id) (met at pages regions)) ≡ Some id → IsLeastMet at pages regions id
+  least_met_is : (regions : List Mapping) (id : ℕ) → least (map (λ m. m.id) (met page at pages regions)) ≡ Some id → IsLeastMet page at pages regions id
   least_met_is regions id e = record {
     reached = reached_by regions id (least_reached _ id e);
     least = All-from_recursion _ regions (below_each regions id (least_below _ id e));
@@ -94,7 +94,7 @@ by_met false (Some other) p m n id e = cc
 pub names_the_least : OverlapNamesTheLeast
 names_the_least p at file file_pages first pages prot shared id e =
     let m : Mapping = record { at = at; id = next_id p; file = file; first = first; pages = pages; prot = prot; shared = shared } in
-    let found = least (map (λ (o : Mapping). o.id) (met at pages p.regions)) in
+    let found = least (map (λ (o : Mapping). o.id) (met p.page at pages p.regions)) in
     let past = nat_lt file_pages (first + pages) in
-    least_met_is at pages p.regions id
+    least_met_is p.page at pages p.regions id
     (by_met past found p m file_pages id (by_row p.state p (cond past (reply.OutOfFile file_pages, p) (inserted found p m)) id e))

@@ -40,16 +40,16 @@ UnguardedStaysUnguarded =
     → guarded (after_events p events).flags ≡ false
 
 -- the least number of the regions that so many pages at an address meet
-pub record IsLeastMet (at pages : ℕ) (regions : List Mapping) (id : ℕ) : Type 0 where
-  pub reached : Any (λ m. (m.id ≡ id) × (is_met at pages m ≡ true)) regions
-  pub least : All (λ m. is_met at pages m ≡ true → id ≤ m.id) regions
+pub record IsLeastMet (page at pages : ℕ) (regions : List Mapping) (id : ℕ) : Type 0 where
+  pub reached : Any (λ m. (m.id ≡ id) × (is_met page at pages m ≡ true)) regions
+  pub least : All (λ m. is_met page at pages m ≡ true → id ≤ m.id) regions
 
 -- Overlap names it
 abbrev pub OverlapNamesTheLeast : Type 0
 OverlapNamesTheLeast =
     (p : PlainProcess) (at file file_pages first pages : ℕ) (prot : Prot) (shared : Bool) (id : ℕ)
     → (process_step p (Insert at file file_pages first pages prot shared)).0 ≡ reply.Overlap id
-    → IsLeastMet at pages p.regions id
+    → IsLeastMet p.page at pages p.regions id
 
 -- the bits that Exited names are those of the files of the regions that stood
 abbrev pub ExitNamesEachFile : Type 0
@@ -58,11 +58,12 @@ ExitNamesEachFile =
     → (k : ℕ) → (bit_at files k ≡ 1) ↔ Any (λ m. m.file ≡ k) p.regions
 
 -- no two regions of a list share an address
-abbrev pub AreApart : List Mapping → Type 0
-AreApart [] = ⊤
-AreApart (m ∷ ms) = AllByRecursion (λ other. is_met m.at m.pages other ≡ false) ms × AreApart ms
+abbrev pub AreApart : ℕ → List Mapping → Type 0
+AreApart page [] = ⊤
+AreApart page (m ∷ ms) = AllByRecursion (λ other. is_met page m.at m.pages other ≡ false) ms × AreApart page ms
 
 -- the regions of a process are apart after any events
 abbrev pub RegionsStayApart : Type 0
 RegionsStayApart =
-    (pid : ℕ) (declared : ProcFlags) (events : List ProcEvent) → AreApart (after_events (fresh pid declared) events).regions
+    (pid page : ℕ) (declared : ProcFlags) (events : List ProcEvent)
+    → AreApart page (after_events (fresh pid declared page) events).regions

@@ -1,5 +1,5 @@
 -- The plain step of a process: what it answers to an event, and what it is then.
-use Rattle.std.specs.Prelude.{ℕ, ◌+◌, ◌*◌, not, ◌&&◌, nat_lt, if◌then◌else◌, List, [], ◌∷◌, ◌++◌, length, map, filter, find, Option, Some, None}
+use Rattle.std.specs.Prelude.{ℕ, ◌+◌, ◌*◌, not, ◌&&◌, nat_lt, if◌then◌else◌, List, [], length, map, filter, find, Option, Some, None}
 use Rattle.cs_policy.specs.declared.flags.ProcFlags.{ProcFlags}
 use Rattle.cs_policy.specs.declared.access.Access.{Access}
 use Rattle.cs_policy.specs.declared.process.ProcEvent.{ProcEvent}
@@ -11,12 +11,13 @@ use Rattle.cs_policy.specs.ProcFlags.{valid, kill, killed, debugged, is_set, wit
 use Rattle.pg_process.specs.declared.mapping.Mapping.{Mapping}
 use Rattle.pg_process.specs.declared.state.State.{State}
 use Rattle.pg_process.specs.declared.state.State.TheVariants.{Fresh, Alive, Killed, Gone}
-use Rattle.pg_process.specs.Regions.{met, has_address, begins_at, file_page, least, files_of}
+use Rattle.pg_process.specs.Regions.{met, has_address, begins_at, file_page, least, files_of, with_mapping}
 
--- A process: its number, the flags that it was declared with and those that it has, its state, how many regions
--- it ever made, and the regions that stand, in the order in which they were made.
+-- A process: its number, the size of its pages, the flags that it was declared with and those that it has, its state, how
+-- many regions it ever made, and the regions that stand, in the order of their addresses.
 pub record PlainProcess : Type 0 where
   pub pid : ℕ
+  pub page : ℕ
   pub declared : ProcFlags
   pub flags : ProcFlags
   pub state : State
@@ -24,9 +25,9 @@ pub record PlainProcess : Type 0 where
   pub regions : List Mapping
 
 -- a process that was not started
-abbrev pub fresh : ℕ → ProcFlags → PlainProcess
-fresh pid declared =
-    record { pid = pid; declared = declared; flags = declared; state = Fresh; made = 0; regions = [] }
+abbrev pub fresh : ℕ → ProcFlags → ℕ → PlainProcess
+fresh pid declared page =
+    record { pid = pid; page = page; declared = declared; flags = declared; state = Fresh; made = 0; regions = [] }
 
 -- ---- the replies that come before the rows
 
@@ -66,14 +67,14 @@ abbrev pub inserted : Option ℕ → PlainProcess → Mapping → ProcReply × P
 inserted (Some id) p m = (reply.Overlap id, p)
 inserted None p m =
     if nat_lt (length p.regions) 256
-    then (reply.Inserted m.id, record p { made = p.made + 1; regions = p.regions ++ m ∷ [] })
+    then (reply.Inserted m.id, record p { made = p.made + 1; regions = with_mapping m p.regions })
     else (reply.Full 256, p)
 
 -- Resolve: the page of the region that has the address, where it permits the access
-abbrev pub resolved : Option Mapping → ℕ → Access → ProcFlags → ProcReply
-resolved None addr access flags = reply.NoMap
-resolved (Some m) addr access flags =
-    if permits m.prot access then reply.Region m.id m.file (file_page m addr) flags else reply.Prot m.id
+abbrev pub resolved : Option Mapping → ℕ → ℕ → Access → ProcFlags → ProcReply
+resolved None page addr access flags = reply.NoMap
+resolved (Some m) page addr access flags =
+    if permits m.prot access then reply.Region m.id m.file (file_page page m addr) flags else reply.Prot m.id
 
 -- Remove: the region that begins at the address goes
 abbrev pub removed : Option Mapping → ℕ → PlainProcess → ProcReply × PlainProcess
@@ -92,9 +93,9 @@ abbrev pub row : PlainProcess → ProcEvent → ProcReply × PlainProcess
 row p Start = started p.state p
 row p (Insert at file file_pages first pages prot shared) =
     if nat_lt file_pages (first + pages) then (reply.OutOfFile file_pages, p)
-    else inserted (least (map (λ m. m.id) (met at pages p.regions))) p
+    else inserted (least (map (λ m. m.id) (met p.page at pages p.regions))) p
     (record { at = at; id = next_id p; file = file; first = first; pages = pages; prot = prot; shared = shared })
-row p (Resolve addr access) = (resolved (find (λ m. has_address addr m) p.regions) addr access p.flags, p)
+row p (Resolve addr access) = (resolved (find (λ m. has_address p.page addr m) p.regions) p.page addr access p.flags, p)
 row p (Remove at) = removed (find (λ m. begins_at at m) p.regions) at p
 row p Debug =
     (reply.Debugged (with_flag p.flags debugged), record p { flags = with_flag p.flags debugged })

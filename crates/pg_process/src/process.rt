@@ -1,10 +1,13 @@
 //! The process.
 
-ghost use Rattle.std.specs.Prelude.{◌≡◌, ◌+◌, ◌<◌, ◌≤◌, IfOk};
+ghost use Rattle.std.specs.Prelude.{◌≡◌, ◌+◌, ◌<◌, ◌≤◌, IfOk, IsTrue};
 ghost use Rattle.cs_policy.specs.declared.process.ProcEvent.TheVariants.{Start, Insert, Resolve, Remove, Debug, Punish, ClearValid, Exit};
+ghost use Rattle.pg_bytes.specs.PageSize.{is_page_size};
 ghost use Rattle.pg_process.specs.ProcessStep.{fresh, process_step};
 
-use crate::mapping::{Mapping, drop_at, file_page, files_of, least_met, region_at, region_with};
+use crate::mapping::{
+    Mapping, drop_at, file_page, files_of, least_met, put, region_at, region_with,
+};
 use crate::state::{State, unless_alive, unless_standing};
 use bitflags::Flags;
 use cs_policy::{Access, ProcFlags, ProcReply, Prot};
@@ -18,10 +21,12 @@ pub const MAX_REGIONS: u32 = 256;
 /// How many numbers a process has for the regions that it ever makes.
 pub const REGION_NUMBERS: u32 = 4096;
 
-/// A process, seen as its number, its flags, its state, the count of regions that it ever made, and its regions.
+/// A process, seen as its number, the size of its pages, its flags, its state, the count of regions that it ever made, and
+/// its regions in the order of their addresses.
 #[derive(Drop)]
 pub struct Process {
     pid: u32,
+    page: u32,
     declared: ProcFlags,
     flags: ProcFlags,
     state: State,
@@ -42,15 +47,22 @@ impl Model for Process {
 }
 
 impl Process {
-    /// A process that was not started, with its number and its declared flags. All memory that it needs is taken
-    /// here: `NoMemory` comes where there is none for 256 regions.
-    pub fn open(alloc: Global, pid: u32, declared: ProcFlags) -> Result<Process, NoMemory>
-        requires { pid < 1048576 }
-        ensures { IfOk result (λ p. p ≡ fresh pid declared) }
+    /// A process that was not started, with its number, its declared flags and the size of its pages, which is 4,096
+    /// or 16,384 bytes. All memory that it needs is taken here: `NoMemory` comes where there is none for 256 regions.
+    pub fn open(
+        alloc: Global,
+        pid: u32,
+        declared: ProcFlags,
+        page: u32,
+    ) -> Result<Process, NoMemory>
+        requires number { pid < 1048576 }
+        requires size { IsTrue (is_page_size page) }
+        ensures { IfOk result (λ p. p ≡ fresh pid declared page) }
     {
         Ok(Process {
             regions: Vec::with_capacity(alloc, MAX_REGIONS as usize)?,
             pid,
+            page,
             declared,
             flags: declared,
             state: State::Fresh,
@@ -71,6 +83,7 @@ impl Process {
         ensures reply { result ≡ (process_step self.old Start).0 }
         ensures after { self.new ≡ (process_step self.old Start).1 }
         ensures made { self.new.made ≡ self.old.made }
+        ensures page { self.new.page ≡ self.old.page }
     {
         if self.state != State::Fresh {
             return ProcReply::Started { pid: self.pid };
@@ -101,6 +114,7 @@ impl Process {
         ensures after { self.new ≡ (process_step self.old (Insert at file file_pages first pages prot shared)).1 }
         ensures flags { self.new.flags ≡ self.old.flags }
         ensures made { self.new.made ≤ self.old.made + 1 }
+        ensures page { self.new.page ≡ self.old.page }
     {
         if let Some(reply) = unless_alive(self.state) {
             return reply;
@@ -108,14 +122,14 @@ impl Process {
         if u128::from(first) + u128::from(pages) > u128::from(file_pages) {
             return ProcReply::OutOfFile { pages: file_pages };
         }
-        if let Some(id) = least_met(&self.regions, at, pages) {
+        if let Some(id) = least_met(&self.regions, self.page, at, pages) {
             return ProcReply::Overlap { id };
         }
         if self.regions.len() == MAX_REGIONS as usize {
             return ProcReply::Full { limit: MAX_REGIONS };
         }
         let id = self.pid * REGION_NUMBERS + self.made;
-        self.regions.push_reserved(Mapping {
+        let mapping = Mapping {
             at,
             id,
             file,
@@ -123,7 +137,8 @@ impl Process {
             pages,
             prot,
             shared,
-        });
+        };
+        put(&mut self.regions, self.page, mapping);
         self.made += 1;
         ProcReply::Inserted { id }
     }
@@ -135,11 +150,12 @@ impl Process {
         ensures after { self.new ≡ (process_step self.old (Resolve addr access)).1 }
         ensures flags { self.new.flags ≡ self.old.flags }
         ensures made { self.new.made ≡ self.old.made }
+        ensures page { self.new.page ≡ self.old.page }
     {
         if let Some(reply) = unless_alive(self.state) {
             return reply;
         }
-        let Some(region) = region_with(&self.regions, addr) else {
+        let Some(region) = region_with(&self.regions, self.page, addr) else {
             return ProcReply::NoMap;
         };
         if !region.prot.permits(access) {
@@ -148,7 +164,7 @@ impl Process {
         ProcReply::Region {
             id: region.id,
             file: region.file,
-            page: file_page(&region, addr),
+            page: file_page(&region, self.page, addr),
             flags: self.flags,
         }
     }
@@ -160,14 +176,15 @@ impl Process {
         ensures after { self.new ≡ (process_step self.old (Remove at)).1 }
         ensures flags { self.new.flags ≡ self.old.flags }
         ensures made { self.new.made ≡ self.old.made }
+        ensures page { self.new.page ≡ self.old.page }
     {
         if let Some(reply) = unless_alive(self.state) {
             return reply;
         }
-        let Some(region) = region_at(&self.regions, at) else {
+        let Some(region) = region_at(&self.regions, self.page, at) else {
             return ProcReply::NoMap;
         };
-        drop_at(&mut self.regions, at);
+        drop_at(&mut self.regions, self.page, at);
         ProcReply::Removed {
             id: region.id,
             file: region.file,
@@ -179,6 +196,7 @@ impl Process {
         ensures reply { result ≡ (process_step self.old Debug).0 }
         ensures after { self.new ≡ (process_step self.old Debug).1 }
         ensures made { self.new.made ≡ self.old.made }
+        ensures page { self.new.page ≡ self.old.page }
     {
         if let Some(reply) = unless_alive(self.state) {
             return reply;
@@ -193,6 +211,7 @@ impl Process {
         ensures reply { result ≡ (process_step self.old Punish).0 }
         ensures after { self.new ≡ (process_step self.old Punish).1 }
         ensures made { self.new.made ≡ self.old.made }
+        ensures page { self.new.page ≡ self.old.page }
     {
         if let Some(reply) = unless_alive(self.state) {
             return reply;
@@ -210,6 +229,7 @@ impl Process {
         ensures reply { result ≡ (process_step self.old ClearValid).0 }
         ensures after { self.new ≡ (process_step self.old ClearValid).1 }
         ensures made { self.new.made ≡ self.old.made }
+        ensures page { self.new.page ≡ self.old.page }
     {
         if let Some(reply) = unless_alive(self.state) {
             return reply;
@@ -225,6 +245,7 @@ impl Process {
         ensures after { self.new ≡ (process_step self.old Exit).1 }
         ensures flags { self.new.flags ≡ self.old.flags }
         ensures made { self.new.made ≡ self.old.made }
+        ensures page { self.new.page ≡ self.old.page }
     {
         if let Some(reply) = unless_standing(self.state) {
             return reply;

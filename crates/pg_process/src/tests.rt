@@ -1,9 +1,12 @@
-ghost use Rattle.std.specs.Prelude.{◌+◌, ◌<◌, ◌≤◌};
+ghost use Rattle.std.specs.Prelude.{◌+◌, ◌<◌, ◌≤◌, IsTrue};
+ghost use Rattle.pg_bytes.specs.PageSize.{is_page_size};
 
 use super::*;
 use ProcReply::*;
 use bitflags::Flags;
 use cs_policy::{Access, ProcFlags, ProcReply, Prot};
+use std::alloc::Global;
+use std::process::Abort;
 use std::test::Fail;
 
 /// The flags of this number.
@@ -28,7 +31,7 @@ fn what_a_violation_costs(rt: HostRuntime) -> Result<(), Fail> {
         (0x1000, 0x1001, Spare, NoMap),
         (0, 1, Spare, NoMap),
     ] {
-        let mut process = Process::open(rt.alloc(), 0, flags(declared))?;
+        let mut process = Process::open(rt.alloc(), 0, flags(declared), 4096)?;
         assert_eq!(rt; process.declared().bits(), declared);
         assert_eq!(rt;
             process.start(),
@@ -46,10 +49,12 @@ fn what_a_violation_costs(rt: HostRuntime) -> Result<(), Fail> {
     Ok(())
 }
 
-#[test]
-fn debugged_process_is_spared(rt: HostRuntime) -> Result<(), Fail> {
+/// A process that is debugged is not killed, whatever the size of its pages.
+fn spares(rt: &impl Abort, alloc: Global, page: u32) -> Result<(), Fail>
+    requires { IsTrue (is_page_size page) }
+{
     let kill = ProcFlags::from_bits(0x200).ok_or("flags")?;
-    let mut process = Process::open(rt.alloc(), 7, kill)?;
+    let mut process = Process::open(alloc, 7, kill, page)?;
     assert_eq!(rt;
         process.start(),
         Began {
@@ -74,27 +79,44 @@ fn debugged_process_is_spared(rt: HostRuntime) -> Result<(), Fail> {
 }
 
 #[test]
-fn most_regions(rt: HostRuntime) -> Result<(), Fail> {
-    let mut process = Process::open(rt.alloc(), 0, flags(0))?;
+fn debugged_process_is_spared(rt: HostRuntime) -> Result<(), Fail> {
+    spares(&rt, rt.alloc(), 4096)?;
+    spares(&rt, rt.alloc(), 16384)
+}
+
+/// 256 regions of one page each, with a page between them, stand, and no more.
+fn fills_up(rt: &impl Abort, alloc: Global, page: u32) -> Result<(), Fail>
+    requires { IsTrue (is_page_size page) }
+{
+    let size = u64::from(page);
+    let mut process = Process::open(alloc, 0, flags(0), page)?;
     assert_eq!(rt; process.start(), Began { flags: flags(1) });
     for id in 0..256 {
-        let reply = map(&mut process, 0x2000 * u64::from(id), 0, 1, Prot::R);
+        let reply = map(&mut process, 2 * size * u64::from(id), 0, 1, Prot::R);
         assert_eq!(rt; reply, Inserted { id });
     }
     assert_eq!(rt;
-        map(&mut process, 0x20_0000, 0, 1, Prot::R),
+        map(&mut process, 512 * size, 0, 1, Prot::R),
         Full { limit: 256 }
     );
     assert_eq!(rt;
-        map(&mut process, 0x1f_cfff, 0, 2, Prot::R),
+        map(&mut process, 509 * size - 1, 0, 2, Prot::R),
         Overlap { id: 254 }
     );
     Ok(())
 }
 
 #[test]
-fn region_numbers_are_not_used_again(rt: HostRuntime) -> Result<(), Fail> {
-    let mut process = Process::open(rt.alloc(), 1, flags(0x1000))?;
+fn most_regions(rt: HostRuntime) -> Result<(), Fail> {
+    fills_up(&rt, rt.alloc(), 4096)?;
+    fills_up(&rt, rt.alloc(), 16384)
+}
+
+/// A region that is mapped where one was unmapped has a number of its own.
+fn maps_again(rt: &impl Abort, alloc: Global, page: u32) -> Result<(), Fail>
+    requires { IsTrue (is_page_size page) }
+{
+    let mut process = Process::open(alloc, 1, flags(0x1000), page)?;
     assert_eq!(rt;
         process.start(),
         Began {
@@ -115,8 +137,16 @@ fn region_numbers_are_not_used_again(rt: HostRuntime) -> Result<(), Fail> {
 }
 
 #[test]
-fn not_started(rt: HostRuntime) -> Result<(), Fail> {
-    let mut process = Process::open(rt.alloc(), 0, flags(0x1000))?;
+fn region_numbers_are_not_used_again(rt: HostRuntime) -> Result<(), Fail> {
+    maps_again(&rt, rt.alloc(), 4096)?;
+    maps_again(&rt, rt.alloc(), 16384)
+}
+
+/// Only Start is answered before it.
+fn is_dead(rt: &impl Abort, alloc: Global, page: u32) -> Result<(), Fail>
+    requires { IsTrue (is_page_size page) }
+{
+    let mut process = Process::open(alloc, 0, flags(0x1000), page)?;
     assert_eq!(rt; process.resolve(0x10000, Access::Execute), Dead);
     assert_eq!(rt; map(&mut process, 0x10000, 0, 1, Prot::R), Dead);
     assert_eq!(rt; process.remove(0x10000), Dead);
@@ -134,8 +164,14 @@ fn not_started(rt: HostRuntime) -> Result<(), Fail> {
 }
 
 #[test]
+fn not_started(rt: HostRuntime) -> Result<(), Fail> {
+    is_dead(&rt, rt.alloc(), 4096)?;
+    is_dead(&rt, rt.alloc(), 16384)
+}
+
+#[test]
 fn three_pages(rt: HostRuntime) -> Result<(), Fail> {
-    let mut process = Process::open(rt.alloc(), 0, flags(0x1000))?;
+    let mut process = Process::open(rt.alloc(), 0, flags(0x1000), 4096)?;
     assert_eq!(rt;
         process.start(),
         Began {
@@ -175,8 +211,48 @@ fn three_pages(rt: HostRuntime) -> Result<(), Fail> {
 }
 
 #[test]
+fn pages_of_16_kib(rt: HostRuntime) -> Result<(), Fail> {
+    let mut process = Process::open(rt.alloc(), 0, flags(0x1000), 16384)?;
+    assert_eq!(rt;
+        process.start(),
+        Began {
+            flags: flags(0x1001)
+        }
+    );
+    assert_eq!(rt;
+        map(&mut process, 0x1_0000, 1, 2, Prot::RX),
+        Inserted { id: 0 }
+    );
+    assert_eq!(rt;
+        map(&mut process, 0xc000, 0, 1, Prot::R),
+        Inserted { id: 1 }
+    );
+    assert_eq!(rt;
+        map(&mut process, 0x1_4000, 0, 1, Prot::R),
+        Overlap { id: 0 }
+    );
+    for (addr, page) in [(0x1_0000, 1), (0x1_3fff, 1), (0x1_4000, 2), (0x1_7fff, 2)] {
+        assert_eq!(rt;
+            process.resolve(addr, Access::Execute),
+            Region {
+                id: 0,
+                file: 0,
+                page,
+                flags: flags(0x1001),
+            }
+        );
+    }
+    assert_eq!(rt; process.resolve(0x1_8000, Access::Execute), NoMap);
+    assert_eq!(rt;
+        process.resolve(0xffff, Access::Execute),
+        ProcReply::Prot { id: 1 }
+    );
+    Ok(())
+}
+
+#[test]
 fn last_addresses(rt: HostRuntime) -> Result<(), Fail> {
-    let mut process = Process::open(rt.alloc(), 0, flags(0x200))?;
+    let mut process = Process::open(rt.alloc(), 0, flags(0x200), 4096)?;
     assert_eq!(rt;
         process.start(),
         Began {

@@ -1,5 +1,5 @@
 -- What is found after each call.
-use Rattle.std.proofs.Common.{◌≡◌, ℕ, ◌==◌, ◌&&◌, List, [], ◌∷◌, ◌++◌, map, filter, Bool, true, false, not, Option, Some, None, refl, ap, sym, subst, ◌∙◌, arith}
+use Rattle.std.proofs.Common.{◌≡◌, ℕ, ◌==◌, ◌&&◌, List, map, filter, Bool, true, false, not, Option, Some, None, refl, ap, sym, subst, ◌∙◌, arith}
 use Rattle.std.specs.Prelude.{insert, AllPairs, MatchOption, is_some, unwrap_or, if◌then◌else◌}
 use Rattle.std.specs.Option.{option_map}
 use Rattle.std.proofs.lemmas.Grind.{common_steps}
@@ -7,11 +7,13 @@ use Rattle.cs_policy.specs.declared.access.Access.{Access}
 use Rattle.cs_policy.specs.declared.access.Access.TheVariants.{Read, Write, Execute}
 use Rattle.cs_policy.specs.declared.region.Region.{Region}
 use Rattle.cs_policy.specs.declared.region.Record.{Record}
-use Rattle.pg_regions.specs.Lookups.{Copy, is_region, region_of, is_record, record_of, is_copy, copy_of, is_of_pid}
+use Rattle.pg_bytes.specs.Order.{in_order}
+use Rattle.pg_regions.specs.Lookups.{Copy, region_before, copy_before, is_region, region_of, is_record, record_of, is_copy, copy_of, is_of_pid}
 use Rattle.pg_regions.specs.RegionsNow.{RegionsNow}
 use Rattle.pg_regions.specs.Steps.{ChangesRegion, ChangesRecord, ChangesCopy, with_region, without_region, without_pid, AreGone, blank, given, given_at, IsOneMore, IsGranted, granted, without_execute, is_without_copy, private_copy, with_copy, copy_with_piece, put_at, with_bytes, rewritten}
-use Rattle.pg_regions.proofs.ListFacts.{all_map, find-filter, find-filter_key, find-map, find-append, find-insert, find-insert_other, none_passes, found_passes}
+use Rattle.pg_regions.proofs.ListFacts.{all_map, find-filter, find-filter_key, find-map, find-insert, find-insert_other, none_passes, found_passes}
 use Rattle.pg_regions.proofs.PairFacts.{found_only}
+use Rattle.pg_regions.proofs.OrderFacts.{IsPlace, in_order_place}
 
 -- ---- keys
 
@@ -37,9 +39,21 @@ copy_swap x y differ = grind (arith, common_steps, differ)
 
 -- ---- regions
 
-pub region_of-push : (regions : List Region) (region : Region) (id : ℕ) → region_of regions region.id ≡ None
-    → region_of (regions ++ region ∷ []) id ≡ (if id == region.id then Some region else region_of regions id)
-region_of-push regions region id none = grind (arith, common_steps, find-append (is_region id) regions (region ∷ []), none)
+pub region_of-ordered : (regions : List Region) (region : Region) (id : ℕ) → region_of regions region.id ≡ None
+    → region_of (in_order region_before region regions) id ≡ (if id == region.id then Some region else region_of regions id)
+region_of-ordered regions region id none = by_key (id == region.id) refl (in_order_place region_before region regions)
+  where
+    by_key : (b : Bool) → (id == region.id) ≡ b → IsPlace region_before region regions
+        → region_of (in_order region_before region regions) id ≡ (if id == region.id then Some region else region_of regions id)
+    by_key true e at =
+        let same : id ≡ region.id = grind (arith, common_steps, e) in
+        let absent : region_of regions id ≡ None = rw same none in
+        let found = find-insert (is_region id) regions at.place region absent in
+        ap (λ (l : List Region). region_of l id) at.inserted ∙ grind (arith, common_steps, found, e)
+    by_key false e at =
+        let other : is_region id region ≡ false = grind (arith, common_steps, e) in
+        let found = find-insert_other (is_region id) regions at.place region other in
+        ap (λ (l : List Region). region_of l id) at.inserted ∙ grind (arith, common_steps, found, e)
 
 pub region_of-without : (regions : List Region) (id i : ℕ)
     → region_of (filter (λ region. not (region.id == id)) regions) i ≡ (if i == id then None else region_of regions i)
@@ -194,9 +208,22 @@ record_of-unmapped records copies page i p =
 
 -- ---- private copies
 
-pub copy_of-push : (copies : List Copy) (copy : Copy) (id page : ℕ) → copy_of copies copy.region copy.page ≡ None
-    → copy_of (copies ++ copy ∷ []) id page ≡ (if id == copy.region && page == copy.page then Some copy else copy_of copies id page)
-copy_of-push copies copy id page none = grind (arith, common_steps, find-append (is_copy id page) copies (copy ∷ []), none)
+pub copy_of-ordered : (copies : List Copy) (copy : Copy) (id page : ℕ) → copy_of copies copy.region copy.page ≡ None
+    → copy_of (in_order copy_before copy copies) id page ≡ (if id == copy.region && page == copy.page then Some copy else copy_of copies id page)
+copy_of-ordered copies copy id page none = by_key (id == copy.region && page == copy.page) refl (in_order_place copy_before copy copies)
+  where
+    by_key : (b : Bool) → (id == copy.region && page == copy.page) ≡ b → IsPlace copy_before copy copies
+        → copy_of (in_order copy_before copy copies) id page ≡ (if id == copy.region && page == copy.page then Some copy else copy_of copies id page)
+    by_key true e at =
+        let region : id ≡ copy.region = grind (arith, common_steps, e) in
+        let number : page ≡ copy.page = grind (arith, common_steps, e) in
+        let absent : copy_of copies id page ≡ None = rw (region, number) none in
+        let found = find-insert (is_copy id page) copies at.place copy absent in
+        ap (λ (l : List Copy). copy_of l id page) at.inserted ∙ grind (arith, common_steps, found, e)
+    by_key false e at =
+        let other : is_copy id page copy ≡ false = grind (arith, common_steps, e) in
+        let found = find-insert_other (is_copy id page) copies at.place copy other in
+        ap (λ (l : List Copy). copy_of l id page) at.inserted ∙ grind (arith, common_steps, found, e)
 
 put_key : (copies : List Copy) (id page at : ℕ) (bytes : List ℕ) (i p : ℕ)
     → option_map (put_at id page at bytes) (copy_of copies i p) ≡ (if i == id && p == page then option_map (copy_with_piece at bytes) (copy_of copies id page) else copy_of copies i p)
@@ -262,8 +289,8 @@ pub added_found : (region : Region) (old new : RegionsNow) → new ≡ with_regi
 added_found region old new same none =
     subst (λ now. ChangesRegion old now region.id (Some region)) (sym same)
     (record {
-      here = region_of-push old.regions region region.id none ∙ ap (λ b. if b then Some region else region_of old.regions region.id) (same_number region.id);
-      others = λ i other. region_of-push old.regions region i none ∙ ap (λ b. if b then Some region else region_of old.regions i) other;
+      here = region_of-ordered old.regions region region.id none ∙ ap (λ b. if b then Some region else region_of old.regions region.id) (same_number region.id);
+      others = λ i other. region_of-ordered old.regions region i none ∙ ap (λ b. if b then Some region else region_of old.regions i) other;
     })
 
 pub made_found : (id page : ℕ) (bytes : List ℕ) (old new : RegionsNow) → new ≡ with_copy (private_copy id page bytes) old
@@ -273,8 +300,8 @@ made_found id page bytes old new same none =
     let copy : Copy = private_copy id page bytes in
     subst (λ now. ChangesCopy old now id page (Some copy)) (sym same)
     (record {
-      here = copy_of-push old.copies copy id page none ∙ ap (λ b. if b then Some copy else copy_of old.copies id page) (same_key id page);
-      others = λ i p other. copy_of-push old.copies copy i p none ∙ ap (λ b. if b then Some copy else copy_of old.copies i p) other;
+      here = copy_of-ordered old.copies copy id page none ∙ ap (λ b. if b then Some copy else copy_of old.copies id page) (same_key id page);
+      others = λ i p other. copy_of-ordered old.copies copy i p none ∙ ap (λ b. if b then Some copy else copy_of old.copies i p) other;
     })
 
 pub put_found : (id page at : ℕ) (bytes : List ℕ) (old new : RegionsNow) → new ≡ with_bytes id page at bytes old

@@ -1,3 +1,5 @@
+pub mod OrderFacts
+pub mod PlaceFacts
 pub mod ListFacts
 pub mod PairFacts
 pub mod FoundFacts
@@ -6,3 +8,4 @@ pub mod SoundFacts
 pub mod DropFacts
 pub mod WriterFacts
 pub mod Laws
+pub mod RecordLaws

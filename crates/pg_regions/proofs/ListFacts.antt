@@ -1,9 +1,10 @@
 -- What is found in a list that was filtered or changed, or that grew; where the first element that passes a test stands.
-use Rattle.std.proofs.Common.{◌≡◌, ℕ, zero, suc, ◌<◌, ◌≤◌, List, [], ◌∷◌, ◌++◌, length, get_or, map, filter, Bool, true, false, not, ◌&&◌, Some, None, refl, ap, sym, subst, arith}
+use Rattle.std.proofs.Common.{◌≡◌, ℕ, zero, suc, ◌<◌, ◌≤◌, List, [], ◌∷◌, ◌++◌, length, get_or, take, drop, map, filter, Bool, true, false, not, ◌&&◌, Some, None, refl, ap, sym, subst, arith}
 use Rattle.std.specs.Prelude.{All, find, position, insert, if◌then◌else◌}
 use Rattle.std.specs.List.{AllByRecursion, position_or_len}
 use Rattle.std.specs.Option.{option_map, option_or}
 use Rattle.std.proofs.lemmas.Grind.{common_steps}
+use Rattle.std.proofs.lemmas.List.{drop_all, take_all, append-nil}
 use Rattle.std.proofs.lemmas.List.Elements.{All-from_recursion, recursion_from_All}
 use Rattle.std.proofs.lemmas.List.Quantifiers.{position-Some}
 
@@ -170,3 +171,9 @@ module _ {X : Type 0} where
       → map (λ x. if q x then f x else x) xs ≡ xs
   position_none-map q f xs none =
       map_none (λ x. if q x then f x else x) xs (all_map (λ x. q x ≡ false) (λ x. (if q x then f x else x) ≡ x) xs (λ x fails. ap (λ b. if b then f x else x) fails) (none_passes q xs (position_none q xs none)))
+
+  -- a list that was written back over all of another
+  pub whole_again : (n : ℕ) (new old : List X) → length new ≡ length old → n ≡ length old → take n (new ++ drop (length new) old) ≡ new
+  whole_again n new old long all =
+      let none : drop (length new) old ≡ [] = drop_all (length new) old (omega arith) in
+      rw (none, append-nil) (take_all n new (omega arith))

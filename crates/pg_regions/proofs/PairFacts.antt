@@ -1,12 +1,11 @@
 -- Lists in which no two elements are of one key.
-use Rattle.std.proofs.Common.{◌≡◌, ℕ, zero, suc, ◌<◌, List, [], ◌∷◌, ◌++◌, length, get_or, set, map, Bool, true, false, Some, None, refl, ap, ◌∙◌, arith}
+use Rattle.std.proofs.Common.{◌≡◌, ℕ, zero, suc, ◌<◌, List, [], ◌∷◌, length, get_or, set, map, Bool, true, false, Some, refl, ap, ◌∙◌, arith}
 use Rattle.std.specs.Prelude.{find, insert, position, AllPairs, if◌then◌else◌}
 use Rattle.std.specs.List.{AllByRecursion}
 use Rattle.std.proofs.lemmas.Grind.{common_steps}
 use Rattle.std.proofs.lemmas.List.Elements.{All-from_recursion, recursion_from_All, All-get_or}
 use Rattle.std.proofs.lemmas.List.Kept.{AllPairs-cons}
-use Rattle.std.proofs.lemmas.List.Quantifiers.{all_pairs_push}
-use Rattle.pg_regions.proofs.ListFacts.{none_passes, position_first, all_map, all_mapped, all_insert, map_none}
+use Rattle.pg_regions.proofs.ListFacts.{position_first, all_map, all_mapped, all_insert, map_none}
 
 module _ {X : Type 0} (R : X → X → Type 0) where
   -- the same as `AllPairs`, by recursion
@@ -121,10 +120,3 @@ module _ {X : Type 0} (same : X → X → Bool) (own : (x : X) → same x x ≡ 
       itself : (ys : List X) → Apart (λ x y. same x y ≡ false) ys → AllByRecursion (λ x. find (same x) ys ≡ Some x) ys
       itself [] apart = tt
       itself (y ∷ ys) apart = (ap (λ b. if b then Some y else find (same y) ys) (own y), behind y ys ys apart.0 (itself ys apart.1))
-
-  -- one more element, whose key no other has
-  pub pairs_push : (xs : List X) (new : X) → find (same new) xs ≡ None → AllPairs (λ x y. same x y ≡ false) xs
-      → AllPairs (λ x y. same x y ≡ false) (xs ++ new ∷ [])
-  pairs_push xs new none pairs =
-      let others = All-from_recursion (λ x. same new x ≡ false) xs (none_passes (same new) xs none) in
-      all_pairs_push (λ x y. same x y ≡ false) xs new pairs (λ k d within. swapped new (get_or xs k d) (others k d within))

@@ -1,13 +1,14 @@
 -- Pages of regions that stand, when a region comes and when regions go.
-use Rattle.std.proofs.Common.{◌≡◌, ℕ, ◌==◌, List, [], ◌∷◌, ◌++◌, filter, Bool, true, false, not, Some, None, refl, ap, sym, subst, ◌∙◌, arith}
+use Rattle.std.proofs.Common.{◌≡◌, ℕ, ◌==◌, List, filter, Bool, true, false, not, Some, None, refl, ap, sym, subst, ◌∙◌, arith}
 use Rattle.std.specs.Prelude.{All, IsSomeAnd, IsTrue, if◌then◌else◌}
 use Rattle.std.proofs.lemmas.Grind.{common_steps}
 use Rattle.std.proofs.lemmas.List.Elements.{All-weaker}
 use Rattle.cs_policy.specs.declared.region.Region.{Region}
 use Rattle.cs_policy.specs.declared.region.Record.{Record}
-use Rattle.pg_regions.specs.Lookups.{Copy, region_of, has_page, HasPage, HasPrivatePage}
+use Rattle.pg_bytes.specs.Order.{in_order}
+use Rattle.pg_regions.specs.Lookups.{Copy, region_before, region_of, has_page, HasPage, HasPrivatePage}
 use Rattle.pg_regions.proofs.ListFacts.{All-filtered}
-use Rattle.pg_regions.proofs.FoundFacts.{region_of-push}
+use Rattle.pg_regions.proofs.FoundFacts.{region_of-ordered}
 
 -- the record is of a page of a region that stands
 abbrev pub Stands : List Region → Record → Type 0
@@ -44,22 +45,22 @@ pub found_again : (P : Region → Type 0) (old new : List Region) (i : ℕ) → 
 found_again P old new i same has = subst (λ o. IsSomeAnd o P) (sym same) has
 
 found_pushed : (P : Region → Type 0) (regions : List Region) (region : Region) (i : ℕ) → region_of regions region.id ≡ None
-    → IsSomeAnd (region_of regions i) P → IsSomeAnd (region_of (regions ++ region ∷ []) i) P
+    → IsSomeAnd (region_of regions i) P → IsSomeAnd (region_of (in_order region_before region regions) i) P
 found_pushed P regions region i none has =
     let other = other_number P regions region.id i none has in
-    found_again P regions (regions ++ region ∷ []) i
-    (region_of-push regions region i none ∙ ap (λ b. if b then Some region else region_of regions i) other) has
+    found_again P regions (in_order region_before region regions) i
+    (region_of-ordered regions region i none ∙ ap (λ b. if b then Some region else region_of regions i) other) has
 
 -- one more region
 pub records_pushed : (regions : List Region) (region : Region) (records : List Record) → region_of regions region.id ≡ None
-    → All (Stands regions) records → All (Stands (regions ++ region ∷ [])) records
+    → All (Stands regions) records → All (Stands (in_order region_before region regions)) records
 records_pushed regions region records none all =
-    All-weaker (Stands regions) (Stands (regions ++ region ∷ [])) (λ r has. found_pushed (Page r.page) regions region r.region none has) records all
+    All-weaker (Stands regions) (Stands (in_order region_before region regions)) (λ r has. found_pushed (Page r.page) regions region r.region none has) records all
 
 pub copies_pushed : (regions : List Region) (region : Region) (copies : List Copy) → region_of regions region.id ≡ None
-    → All (StandsPrivate regions) copies → All (StandsPrivate (regions ++ region ∷ [])) copies
+    → All (StandsPrivate regions) copies → All (StandsPrivate (in_order region_before region regions)) copies
 copies_pushed regions region copies none all =
-    All-weaker (StandsPrivate regions) (StandsPrivate (regions ++ region ∷ []))
+    All-weaker (StandsPrivate regions) (StandsPrivate (in_order region_before region regions))
     (λ copy has. found_pushed (PrivatePage copy.page) regions region copy.region none has) copies all
 
 -- some regions went: those that `gone` tells, with what belonged to them

@@ -1,8 +1,11 @@
 -- The least number of a shared region that may write a page.
-use Rattle.std.proofs.Common.{◌≡◌, ℕ, ◌≤◌, ◌⊎◌, Bool, true, false, List, [], ◌∷◌, map, filter, fold, min, Option, Some, None, refl, ap, sym, subst, inl, inr, ◌∙◌, arith}
+use Rattle.std.proofs.Common.{◌≡◌, ℕ, ◌-◌, ◌<◌, ◌≤◌, ◌==◌, ◌⊎◌, ⊎_elim, length, take, drop, get_or, Bool, true, false, List, [], ◌∷◌, map, filter, fold, min, Option, Some, None, refl, ap, sym, subst, inl, inr, ◌∙◌, arith}
 use Rattle.std.specs.Prelude.{nat_le, AllPairs, IfSome, IfNone, IsSomeAnd, if◌then◌else◌}
 use Rattle.std.specs.List.{AllByRecursion, reduce}
+use Rattle.std.specs.List.{AllWithin}
+use Rattle.std.proofs.lemmas.Bool.{ne_eqb}
 use Rattle.std.proofs.lemmas.Grind.{common_steps}
+use Rattle.pg_bytes.proofs.SplitFacts.{filter_part}
 use Rattle.cs_policy.specs.declared.region.Region.{Region}
 use Rattle.cs_policy.specs.declared.region.Record.{Record}
 use Rattle.pg_regions.specs.Lookups.{is_record, record_of, is_shared, permits_write, writer_of, IsWriter, IsLeastWriter}
@@ -140,3 +143,13 @@ module _ (regions : List Region) (records : List Record) (page : ℕ) where
       no_record : {id : ℕ}
           → (r : Record) × (permits_write regions page r ≡ false) × (permits_write regions page r ≡ true) × (r.region ≡ id) → ⊥
       no_record (r, fails, lets, same) = cc
+
+-- the records of a page stand together, and no others let a region write it
+pub writer_within : (regions : List Region) (records : List Record) (page start end : ℕ) → start ≤ length records → end ≤ length records → AllWithin (λ r. r.page < page) records 0 start → AllWithin (λ r. page < r.page) records end (length records)
+    → writer_of regions (take (end - start) (drop start records)) page ≡ writer_of regions records page
+writer_within regions records page start end within_start within_end lesser greater =
+    ap (λ (l : List Record). reduce min (map (λ r. r.region) l))
+    (filter_part (permits_write regions page) start end records within_start within_end (λ k d le lt. elsewhere (get_or records k d) (inl (lesser k d le lt))) (λ k d le lt. elsewhere (get_or records k d) (inr (greater k d le lt))))
+  where
+    elsewhere : (r : Record) → (r.page < page) ⊎ (page < r.page) → permits_write regions page r ≡ false
+    elsewhere r apart = let other : (r.page == page) ≡ false = ne_eqb r.page page (λ same. ⊎_elim (λ lt. omega arith) (λ lt. omega arith) apart) in rw other refl

@@ -6,6 +6,7 @@ use Rattle.pg_regions.specs.RegionsNow.{RegionsNow}
 -- the lists, and their room, which is what was taken for them
 abbrev pub regions_of : Inside → RegionsNow
 regions_of inside = record {
+  page = inside.copies.page;
   regions = inside.regions.items;
   records = inside.records.items;
   copies = inside.copies.list;

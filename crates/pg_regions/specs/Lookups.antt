@@ -1,5 +1,5 @@
 -- Lists of regions, of records and of private copies, and what is found in them.
-use Rattle.std.specs.Prelude.{ℕ, ◌+◌, ◌≡◌, ◌==◌, ◌≤◌, nat_le, nat_lt, min, Bool, true, false, ◌&&◌, IsTrue, List, filter, find, map, AllPairs, Option, IsSomeAnd}
+use Rattle.std.specs.Prelude.{ℕ, ◌+◌, ◌≡◌, ◌==◌, ◌≤◌, nat_le, nat_lt, min, Bool, true, false, ◌&&◌, ◌||◌, IsTrue, List, filter, find, map, count_by, AllPairs, Option, IsSomeAnd, is_some, Result, Ok, Err, if◌then◌else◌}
 use Rattle.std.specs.List.{reduce}
 use Rattle.std.specs.Option.{option_map, option_map_or}
 use Rattle.cs_policy.specs.declared.region.Region.{Region}
@@ -48,6 +48,41 @@ RecordsDiffer records = AllPairs (λ one other. is_record one.region one.page ot
 -- no two copies are of one region and page
 abbrev pub CopiesDiffer : List Copy → Type 0
 CopiesDiffer copies = AllPairs (λ one other. is_copy one.region one.page other ≡ false) copies
+
+-- ---- the order in which they stand
+
+-- the key of a page and a region is less than that of another page and region: the page decides first
+abbrev pub comes_before : ℕ → ℕ → ℕ → ℕ → Bool
+comes_before page region other_page other_region =
+    nat_lt page other_page || (page == other_page && nat_lt region other_region)
+
+abbrev pub record_before : Record → Record → Bool
+record_before one other = comes_before one.page one.region other.page other.region
+
+abbrev pub copy_before : Copy → Copy → Bool
+copy_before one other = comes_before one.page one.region other.page other.region
+
+abbrev pub region_before : Region → Region → Bool
+region_before one other = nat_lt one.id other.id
+
+-- regions stand in the order of their numbers
+abbrev pub RegionsRise : List Region → Type 0
+RegionsRise regions = AllPairs (λ one other. region_before one other ≡ true) regions
+
+-- records stand in the order of their pages, and those of a page in the order of their regions
+abbrev pub RecordsRise : List Record → Type 0
+RecordsRise records = AllPairs (λ one other. record_before one other ≡ true) records
+
+-- and so do copies
+abbrev pub CopiesRise : List Copy → Type 0
+CopiesRise copies = AllPairs (λ one other. copy_before one other ≡ true) copies
+
+-- the record of a region and page: how many records have a lesser page, or the same page and a lesser region, and
+-- whether the record stands
+abbrev pub placed : ℕ → ℕ → List Record → Result ℕ ℕ
+placed page id records =
+    if is_some (record_of records id page) then Ok (count_by (λ r. comes_before r.page r.region page id) records)
+    else Err (count_by (λ r. comes_before r.page r.region page id) records)
 
 -- ---- what a region is, by its number
 

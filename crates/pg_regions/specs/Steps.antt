@@ -1,11 +1,12 @@
 -- What each call on the regions of a file leaves, and what is found then.
-use Rattle.std.specs.Prelude.{ℕ, ◌≡◌, ◌-◌, ◌≤◌, ◌==◌, ◌&&◌, not, Bool, true, false, List, [], ◌∷◌, ◌++◌, length, map, filter, insert, Option, None, MatchOption, option_map, is_some, unwrap_or, if◌then◌else◌}
+use Rattle.std.specs.Prelude.{ℕ, ◌≡◌, ◌-◌, ◌≤◌, ◌==◌, ◌&&◌, not, Bool, true, false, List, length, map, filter, insert, Option, None, MatchOption, option_map, is_some, unwrap_or, if◌then◌else◌}
 use Rattle.cs_policy.specs.declared.access.Access.{Access}
 use Rattle.cs_policy.specs.declared.access.Access.TheVariants.{Read, Write, Execute}
 use Rattle.cs_policy.specs.declared.region.Region.{Region}
 use Rattle.cs_policy.specs.declared.region.Record.{Record}
-use Rattle.pg_io.specs.MemPages.{written_over}
-use Rattle.pg_regions.specs.Lookups.{Copy, region_of, record_of, copy_of, is_record, is_copy, is_of_pid}
+use Rattle.pg_bytes.specs.Order.{in_order}
+use Rattle.pg_io.specs.PageBytes.{written_over}
+use Rattle.pg_regions.specs.Lookups.{Copy, region_of, record_of, copy_of, is_record, is_copy, is_of_pid, region_before, copy_before}
 use Rattle.pg_regions.specs.RegionsNow.{RegionsNow, Room, spare}
 
 -- ---- what is found after a change
@@ -49,9 +50,9 @@ pub record KeepsRoom (old new : RegionsNow) : Type 0 where
 
 -- ---- regions
 
--- one more region
+-- one more region, in its order
 abbrev pub with_region : Region → RegionsNow → RegionsNow
-with_region region now = record now { regions = now.regions ++ region ∷ [] }
+with_region region now = record now { regions = in_order region_before region now.regions }
 
 -- a region goes with its records and copies
 abbrev pub without_region : ℕ → RegionsNow → RegionsNow
@@ -148,9 +149,9 @@ FindsUnmapped old new page =
 abbrev pub private_copy : ℕ → ℕ → List ℕ → Copy
 private_copy id page bytes = record { region = id; page = page; bytes = bytes }
 
--- one more copy
+-- one more copy, in its order
 abbrev pub with_copy : Copy → RegionsNow → RegionsNow
-with_copy copy now = record now { copies = now.copies ++ copy ∷ [] }
+with_copy copy now = record now { copies = in_order copy_before copy now.copies }
 
 -- a copy with bytes written over a part of it
 abbrev pub copy_with_piece : ℕ → List ℕ → Copy → Copy

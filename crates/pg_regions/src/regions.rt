@@ -1,22 +1,25 @@
 //! The regions of a file, with their records and private copies.
 
-ghost use Rattle.std.specs.Prelude.{◌≡◌, ◌==◌, ◌+◌, ◌<◌, ◌≤◌, ◌^◌, not, IsSome, IfSome, IfNone, IfOk, Some, None, is_some, option_copied, length, filter, count_by, vec_capacity};
+ghost use Rattle.std.specs.Prelude.{◌≡◌, ◌==◌, ◌+◌, ◌<◌, ◌≤◌, ◌^◌, not, IsSome, IsTrue, ◌↔◌, ◌-◌, ◌*◌, IfSome, IfNone, IfOk, Some, None, is_some, option_copied, length, filter, count_by, vec_capacity};
 ghost use Rattle.std.specs.Bool.{OnFalse};
-ghost use Rattle.pg_io.specs.Pager.{page_size};
-ghost use Rattle.pg_regions.specs.Lookups.{RegionsDiffer, region_of, record_of, copy_of, bytes_of, HasPage, HasPrivatePage, is_of_pid, writer_of, IsLeastWriter, HasNoWriter};
+ghost use Rattle.pg_bytes.specs.PageSize.{is_page_size};
+ghost use Rattle.pg_regions.specs.Lookups.{RegionsDiffer, placed, region_of, record_of, copy_of, bytes_of, HasPage, HasPrivatePage, is_of_pid, writer_of, IsLeastWriter, HasNoWriter};
 ghost use Rattle.pg_regions.specs.RegionsNow.{empty, spare, IsSound};
 ghost use Rattle.pg_regions.specs.Steps.{ChangesRegion, ChangesRecord, ChangesCopy, one_region_less, one_copy_less, KeepsRoom, with_region, without_region, without_pid, AreGone, IsFresh, IsGranted, granted, spare_granted, stripped, FindsStripped, unmapped, FindsUnmapped, private_copy, with_copy, with_bytes, rewritten};
 
 use crate::copies::Copies;
 use crate::{NoMemory, records, standing};
 use cs_policy::{Access, Record, Region};
+use pg_bytes::Steps;
 use std::alloc::Global;
 use std::marker::Model;
+use std::sync::ledger::Ledger;
 
 /// The regions of one file, what each was given of the file's pages, and its private copies of them.
 ///
-/// Contracts see it as three lists, and how many of each there is room for (`specs/RegionsNow.antt`). Regions stand
-/// in the order in which they were added, copies in the order in which they were made, and records in no stated order.
+/// Contracts see it as three lists, how many of each there is room for, and the size of a page (`specs/RegionsNow.antt`).
+/// Regions stand in the order of their numbers, records and copies in the order of their pages and, of one page, of
+/// their regions.
 #[derive(Drop)]
 pub struct Regions {
     regions: Vec<Region>,
@@ -37,24 +40,26 @@ impl Model for Regions {
 }
 
 impl Regions {
-    /// A file that no process has mapped, with room for so many regions, records and private copies of 4,096 bytes.
-    /// The regions are fewer than 2^32. All memory that they ever use is taken here: `NoMemory` comes where there is
-    /// none for them.
+    /// A file that no process has mapped, with room for so many regions, records and private copies of pages of `page`
+    /// bytes, 4,096 or 16,384. The regions are fewer than 2^32. All memory that they ever use is taken here: `NoMemory`
+    /// comes where there is none for them.
     pub fn open(
         alloc: Global,
         regions: usize,
         records: usize,
         copies: usize,
+        page: u32,
     ) -> Result<Regions, NoMemory>
-        requires { regions < 2 ^ 32 }
-        ensures opened { IfOk result (λ opened. opened ≡ empty regions records copies) }
+        requires few { regions < 2 ^ 32 }
+        requires size { IsTrue (is_page_size page) }
+        ensures opened { IfOk result (λ opened. opened ≡ empty page regions records copies) }
         ensures room { IfOk result (λ opened. spare opened ≡ record { regions = regions; records = records; copies = copies }) }
         ensures sound { IfOk result IsSound }
     {
         Ok(Regions {
             regions: Vec::with_capacity(alloc, regions)?,
             records: Vec::with_capacity(alloc, records)?,
-            copies: Copies::open(alloc, copies)?,
+            copies: Copies::open(alloc, copies, page)?,
         })
     }
 
@@ -69,7 +74,7 @@ impl Regions {
         ensures room { spare self.new ≡ one_region_less (spare self.old) }
         ensures sound { IsSound self.new }
     {
-        self.regions.push_reserved(region);
+        standing::put(&mut self.regions, region);
     }
 
     /// Drops a region with its records and copies. The answer is false exactly where no region has this number, and
@@ -121,6 +126,37 @@ impl Regions {
         records::find_record(&self.records, id, page)
     }
 
+    /// Where the record of a page and region stands, or would stand: the number of records that are of a lesser page, or
+    /// of the same page and a lesser region. It is `Ok` exactly where that record stands. A step is one record compared:
+    /// two to the power of the steps is at most 2n + 1 for n records, and there is a step where there is a record. The
+    /// steps counted before the call are below 2^62.
+    pub fn place<L: Ledger>(&self, page: u64, id: u32, steps: &mut Steps<L>) -> Result<usize, usize>
+        requires room { steps.old < 2 ^ 62 }
+        ensures placed { result ≡ placed page id self.now.records }
+        ensures cost { 2 ^ (steps.new - steps.old) ≤ 2 * length self.now.records + 1 }
+        ensures some { 0 < length self.now.records → steps.old < steps.new }
+        ensures later { steps.old ≤ steps.new }
+        ensures sound { IsSound self.now }
+    {
+        records::halve(&self.records, page, id, steps)
+    }
+
+    /// Whether the region stands and has the page.
+    pub fn has_page(&self, id: u32, page: u64) -> bool
+        ensures value { IsTrue result ↔ HasPage self.now.regions id page }
+        ensures sound { IsSound self.now }
+    {
+        standing::has_page(&self.regions, id, page)
+    }
+
+    /// Whether the region stands, is private and has the page.
+    pub fn has_private_page(&self, id: u32, page: u64) -> bool
+        ensures value { IsTrue result ↔ HasPrivatePage self.now.regions id page }
+        ensures sound { IsSound self.now }
+    {
+        standing::has_private_page(&self.regions, id, page)
+    }
+
     /// Gives a region an access to one of its pages, and reading with it. Write takes from the region the permission
     /// to execute the page, and Execute keeps `guarded` beside it. What else the region had stays. The region stands
     /// and has the page. A record is made where there is none, and room for one is left, also where the record stands
@@ -168,23 +204,23 @@ impl Regions {
         records::writer(&self.records, &self.regions, page)
     }
 
-    /// The bytes of a region's private copy of a page, 4,096 of them, or `None` exactly where it has none.
+    /// The bytes of a region's private copy of a page, as many as a page has, or `None` exactly where it has none.
     pub fn copy(&self, id: u32, page: u64) -> Option<&[u8]>
         ensures found { option_copied result ≡ bytes_of self.now.copies id page }
         ensures none { IfNone result (copy_of self.now.copies id page ≡ None) }
-        ensures whole { IfSome result (λ bytes. length bytes.now ≡ page_size) }
+        ensures whole { IfSome result (λ bytes. length bytes.now ≡ self.now.page) }
         ensures sound { IsSound self.now }
     {
         self.copies.find(id, page)
     }
 
-    /// Makes a private copy of a page for a private region that has none of it, with the 4,096 bytes that it begins
-    /// with. Room for a copy is left.
+    /// Makes a private copy of a page for a private region that has none of it, with the bytes of a page that it
+    /// begins with. Room for a copy is left.
     pub fn make_copy(&mut self, id: u32, page: u64, bytes: &[u8])
         requires stands { HasPrivatePage self.old.regions id page }
         requires room { 0 < (spare self.old).copies }
         requires absent { copy_of self.old.copies id page ≡ None }
-        requires whole { length bytes.now ≡ page_size }
+        requires whole { length bytes.now ≡ self.old.page }
         ensures after { self.new ≡ with_copy (private_copy id page bytes.now) self.old }
         ensures found { ChangesCopy self.old self.new id page (Some (private_copy id page bytes.now)) }
         ensures room { spare self.new ≡ one_copy_less (spare self.old) }
@@ -197,7 +233,7 @@ impl Regions {
     /// has a copy of the page, and the bytes stay in the page.
     pub fn put_copy(&mut self, id: u32, page: u64, at: u32, bytes: &[u8])
         requires there { IsSome (copy_of self.old.copies id page) }
-        requires fits { at + length bytes.now ≤ page_size }
+        requires fits { at + length bytes.now ≤ self.old.page }
         ensures after { self.new ≡ with_bytes id page at bytes.now self.old }
         ensures found { ChangesCopy self.old self.new id page (rewritten id page at bytes.now self.old) }
         ensures room { spare self.new ≡ spare self.old }

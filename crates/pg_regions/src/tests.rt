@@ -1,9 +1,15 @@
-ghost use Rattle.std.specs.Prelude.{◌≡◌, ◌+◌, ◌<◌, ◌≤◌, IsTrue, None};
-ghost use Rattle.pg_regions.specs.Lookups.{copy_of, HasPage, HasPrivatePage};
+ghost use Rattle.std.specs.Prelude.{◌≡◌, ◌+◌, ◌<◌, ◌≤◌, IsTrue, None, length};
+ghost use Rattle.pg_bytes.specs.PageSize.{is_page_size};
+ghost use Rattle.pg_regions.specs.Lookups.{copy_of, HasPrivatePage};
 ghost use Rattle.pg_regions.specs.RegionsNow.{spare};
 
 use super::*;
 use cs_policy::{Access, Prot, Record, Region};
+use pg_bytes::Steps;
+use std::alloc::Global;
+use std::marker::Brand;
+use std::process::Abort;
+use std::sync::ledger::{Blank, Ledger};
 use std::test::Fail;
 
 #[derive(Clone, Copy, Debug)]
@@ -59,16 +65,6 @@ const LATER: Region = Region {
     shared: true,
 };
 
-// Whether the region stands and has the page.
-fn has_page(regions: &Regions, id: u32, page: u64) -> bool
-    ensures { IsTrue result → HasPage regions.now.regions id page }
-{
-    match regions.find(id) {
-        Some(region) => page >= region.first && page - region.first < region.pages,
-        None => false,
-    }
-}
-
 // Whether a copy of the page can be made for the region.
 fn can_copy(regions: &Regions, id: u32, page: u64) -> bool
     ensures stands { IsTrue result → HasPrivatePage regions.now.regions id page }
@@ -77,12 +73,7 @@ fn can_copy(regions: &Regions, id: u32, page: u64) -> bool
     if regions.copy(id, page).is_some() {
         return false;
     }
-    match regions.find(id) {
-        Some(region) => {
-            !region.shared && page >= region.first && page - region.first < region.pages
-        }
-        None => false,
-    }
+    regions.has_private_page(id, page)
 }
 
 // The call with its answer, where its conditions hold.
@@ -90,13 +81,15 @@ fn run(regions: &mut Regions, call: Call) -> Result<Option<u32>, &'static str>
     requires regions { 0 < (spare regions.old).regions }
     requires records { 0 < (spare regions.old).records }
     requires copies { 0 < (spare regions.old).copies }
+    requires size { regions.old.page ≡ 4096 }
     ensures regions { (spare regions.old).regions ≤ (spare regions.new).regions + 1 }
     ensures records { (spare regions.old).records ≤ (spare regions.new).records + 1 }
     ensures copies { (spare regions.old).copies ≤ (spare regions.new).copies + 1 }
+    ensures size { regions.new.page ≡ 4096 }
 {
     match call {
         Call::Add(region) if regions.find(region.id).is_none() => regions.add(region),
-        Call::Grant(id, page, access, guarded) if has_page(regions, id, page) => {
+        Call::Grant(id, page, access, guarded) if regions.has_page(id, page) => {
             regions.grant(id, page, access, guarded);
         }
         Call::Strip(page) => regions.strip(page),
@@ -213,7 +206,7 @@ const RXG: [char; 4] = ['r', '-', 'x', 'g'];
 
 #[test]
 fn two_processes_map_a_file(rt: HostRuntime) -> Result<(), Fail> {
-    let mut regions = Regions::open(rt.alloc(), 26, 26, 26)?;
+    let mut regions = Regions::open(rt.alloc(), 26, 26, 26, 4096)?;
     for (call, answer, records) in CALLS.iter() {
         assert_eq!(rt; run(&mut regions, *call)?, *answer, "of {call:?}");
         let shown = SHOWN.map(|(id, page)| letters(regions.record(id, page)));
@@ -231,7 +224,7 @@ fn ends(copy: Option<&[u8]>) -> Option<(u8, u8)> {
 
 #[test]
 fn a_copy_is_written_and_goes_with_its_region(rt: HostRuntime) -> Result<(), Fail> {
-    let mut regions = Regions::open(rt.alloc(), 5, 5, 5)?;
+    let mut regions = Regions::open(rt.alloc(), 5, 5, 5, 4096)?;
     assert_eq!(rt; run(&mut regions, Call::Add(PRIVATE))?, None);
     assert_eq!(rt; run(&mut regions, Call::MakeCopy(1, 6))?, None);
     assert_eq!(rt; run(&mut regions, Call::PutCopy(1, 6, 4095, 9))?, None);
@@ -244,16 +237,75 @@ fn a_copy_is_written_and_goes_with_its_region(rt: HostRuntime) -> Result<(), Fai
     Ok(())
 }
 
-#[test]
-fn what_goes_gives_its_room_back(rt: HostRuntime) -> Result<(), Fail> {
-    let mut regions = Regions::open(rt.alloc(), 1, 1, 1)?;
+// A region is added, given a page and a copy of it, and dropped, three times in the room of one.
+fn comes_and_goes(rt: &impl Abort, alloc: Global, page: u32, bytes: &[u8]) -> Result<(), Fail>
+    requires size { IsTrue (is_page_size page) }
+    requires whole { length bytes.now ≡ page }
+{
+    let mut regions = Regions::open(alloc, 1, 1, 1, page)?;
     for _ in 0..3 {
         regions.add(PRIVATE);
         regions.grant(1, 4, Access::Write, true);
-        regions.make_copy(1, 4, &[7; 4096]);
+        regions.make_copy(1, 4, bytes);
         assert_eq!(rt; letters(regions.record(1, 4)), RW);
+        assert_eq!(rt;
+            regions.copy(1, 4).map(|copy| copy.len()),
+            Some(bytes.len())
+        );
         assert!(rt; regions.drop_region(1));
         assert_eq!(rt; letters(regions.record(1, 4)), NONE);
+    }
+    Ok(())
+}
+
+#[test]
+fn what_goes_gives_its_room_back(rt: HostRuntime) -> Result<(), Fail> {
+    comes_and_goes(&rt, rt.alloc(), 4096, &[7; 4096])?;
+    comes_and_goes(&rt, rt.alloc(), 16384, &[7; 16384])
+}
+
+// Takes steps of which there are at most so many.
+fn at_most<L: Ledger>(_steps: &Steps<L>, _limit: u64)
+    requires { _steps.now ≤ _limit }
+{}
+
+// Where the record of a page and region stands among three, in at most two steps.
+fn place_of_three<L: Ledger>(
+    blank: Blank,
+    among: &Regions,
+    page: u64,
+    id: u32,
+) -> Result<usize, usize>
+    requires name { blank.name ≡ L.name }
+    requires parts { blank.parts ≡ L.parts }
+    requires some { 0 < blank.parts }
+    requires three { length among.now.records ≤ 3 }
+{
+    let mut steps = Steps::<L>::open(blank);
+    let place = among.place(page, id, &mut steps);
+    at_most(&steps, 2);
+    place
+}
+
+#[test]
+fn records_are_placed_by_page_and_region(rt: HostRuntime) -> Result<(), Fail> {
+    let mut regions = Regions::open(rt.alloc(), 3, 3, 0, 4096)?;
+    regions.add(Region { id: 7, ..SHARED });
+    regions.add(Region { id: 1, ..SHARED });
+    regions.add(Region { id: 5, ..SHARED });
+    regions.grant(1, 2, Access::Read, false);
+    regions.grant(7, 0, Access::Read, false);
+    regions.grant(5, 0, Access::Read, false);
+    for (page, id, place) in [
+        (0, 7, Ok(1)),
+        (1, 9, Err(2)),
+        (0, 5, Ok(0)),
+        (2, 1, Ok(2)),
+        (2, 2, Err(3)),
+        (0, 6, Err(1)),
+    ] {
+        let found = place_of_three::<Brand>(Blank::new(1), &regions, page, id);
+        assert_eq!(rt; found, place, "of page {page}, region {id}");
     }
     Ok(())
 }

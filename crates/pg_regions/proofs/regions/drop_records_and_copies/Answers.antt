@@ -13,14 +13,14 @@ pub loop-region-init : goal.loop-region-init
 loop-region-init c = record {
   records = sym (left-first (λ (r : Record). r.region) c.args.regions.now c.args.pid c.args.records.now.items);
   copies =
-      ap (λ (l : List Copy). record { list = l; room = c.args.copies.now.room })
+      ap (λ (l : List Copy). record { page = c.args.copies.now.page; list = l; room = c.args.copies.now.room })
       (sym (left-first (λ (copy : Copy). copy.region) c.args.regions.now c.args.pid c.args.copies.now.list));
   room = refl;
 }
 
 pub loop-region-preserved : goal.loop-region-preserved
 loop-region-preserved c =
-    let with_list : List Copy → CopiesNow = λ l. record { list = l; room = c.args.copies.now.room } in
+    let with_list : List Copy → CopiesNow = λ l. record { page = c.args.copies.now.page; list = l; room = c.args.copies.now.room } in
     let regions = c.args.regions.now in
     let i = c.loop-region.region-index in
     let here = c.loop-region-test.true in

@@ -9,14 +9,14 @@ invariant_of-self c =
     let was = subst IsSound c.self.view_is c.self.invariant in
     sound_by _ _ (search rules)
     (granted_sound c.args.self.now c.args.id c.args.page c.args.access c.args.guarded c.grant.new.records.items was
-    c.requires.stands c.requires.room (search rules))
+    c.requires.stands c.requires.room c.grant.ensures.rises (search rules))
 
 pub returns-clause-sound : goal.returns-clause-sound
 returns-clause-sound c =
     let was = subst IsSound c.self.view_is c.self.invariant in
     sound_by _ _ (search rules)
     (granted_sound c.args.self.now c.args.id c.args.page c.args.access c.args.guarded c.grant.new.records.items was
-    c.requires.stands c.requires.room (search rules))
+    c.requires.stands c.requires.room c.grant.ensures.rises (search rules))
 
 pub returns-clause-found : goal.returns-clause-found
 returns-clause-found c = granted_found c.args.id c.args.page c.args.access c.args.guarded c.args.self.now _ (search rules)
