@@ -1,0 +1,4 @@
+pub mod Crossing
+pub mod Memory
+pub mod PartFacts
+pub mod Sharing
