@@ -1,0 +1,9 @@
+pub mod ListFacts
+pub mod FewerFacts
+pub mod LeaveFacts
+pub mod EnterFacts
+pub mod GrantFacts
+pub mod VerdictFacts
+pub mod GiveFacts
+pub mod ChangeFacts
+pub mod StepFacts
