@@ -1,6 +1,12 @@
 -- How the list of pages that do not match grows from page to page.
-use Rattle.std.proofs.Common.{◌≡◌, ℕ, suc, ◌+◌, ◌-◌, ◌<◌, ◌≤◌, List, [], ◌∷◌, ◌++◌, Option, Some, None, refl, sym, ◌∙◌, arith}
+use Rattle.std.proofs.Common.{◌≡◌, ℕ, suc, ◌+◌, ◌-◌, ◌<◌, ◌≤◌, List, [], ◌∷◌, ◌++◌, Option, Some, None, ◌*◌, Bool, true, false, cond, min, nat_lt, ◌⊎◌, inl, inr, refl, sym, ◌∙◌, arith}
 use Rattle.std.specs.List.{filter_map, cons_option, range_with_len}
+use Rattle.std.specs.Int.{div_ceil}
+use Rattle.std.proofs.lemmas.Bool.Decides.{nat_tests}
+use Rattle.pg_bytes.specs.Counts.{RoseBy}
+use Rattle.pg_bytes.specs.PageSize.{IsPageSize}
+use Rattle.pg_bytes.proofs.CountFacts.{RoseBy-join}
+use Rattle.pg_bytes.proofs.PageSizeFacts.{page_sizes}
 use Rattle.std.proofs.lemmas.List.{append_assoc, append-nil}
 
 -- what is still to be found, by the page that comes next
@@ -24,3 +30,20 @@ pub pages_noted : {X : Type 0} (wrong : ℕ → Option X) (found whole : List X)
 pages_noted wrong found whole page all le so_far =
     let none : all - page ≡ 0 = omega arith in
     sym (append-nil found) ∙ (rw none at so_far)
+
+-- a page that the limit reaches begins below it
+pub page_inside : (size limit page : ℕ) → IsPageSize size → page < div_ceil limit size → page * size < limit
+page_inside size limit page known lt = by_size (page_sizes size known)
+  where
+    by_size : (size ≡ 4096) ⊎ (size ≡ 16384) → page * size < limit
+    by_size (inl e) = let here = rw e at lt in rw e (omega arith)
+    by_size (inr e) = let here = rw e at lt in rw e (omega arith)
+
+min_by_test : (slots page : ℕ) (test : Bool) → nat_lt page slots ≡ test → min slots (page + 1) ≡ min slots page + cond test 1 0
+min_by_test slots page true e = let lt : page < slots = grind (arith, nat_tests) in grind arith
+min_by_test slots page false e = let le : slots ≤ page = grind (arith, nat_tests) in grind arith
+
+-- one page more, which is hashed where it has a slot
+pub hashed-next : (slots page start before now : ℕ) → RoseBy (min slots page) start before → RoseBy (cond (nat_lt page slots) 1 0) before now → RoseBy (min slots (page + 1)) start now
+hashed-next slots page start before now known here =
+    rw (min_by_test slots page (nat_lt page slots) refl) (RoseBy-join (min slots page) (cond (nat_lt page slots) 1 0) start before now known here)

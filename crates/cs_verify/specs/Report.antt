@@ -20,23 +20,23 @@ use Rattle.cs_blob.specs.Refusals as signed_refusals
 use Rattle.cs_verify.specs.declared.report.SliceReport.{SliceReport}
 use Rattle.cs_verify.specs.declared.report.SliceReport.TheVariants.{Refused, Accepted}
 use Rattle.pg_digest.specs.Kinds.{Hash}
-use Rattle.cs_verify.specs.Pages.{page_count, bad_pages}
+use Rattle.cs_verify.specs.Pages.{pages_of, bad_pages}
 
 -- an image and its signature
 abbrev pub accepted : Hash → List ℕ → Image → Signature → SliceReport
 accepted hash bytes image s =
     Accepted image.cputype image.cpusubtype image.filetype s.cdhash s.best.kind (bit_and s.best.flags flag_mask)
-    s.best.limit s.best.code_slots (ident_at s.best_bytes) (bad_pages hash s.best s.best_bytes bytes) (page_count s.best.limit)
+    s.best.limit s.best.code_slots (ident_at s.best_bytes) (bad_pages hash s.best s.best_bytes bytes) (pages_of s.best)
 
--- an image whose signature has these bytes, by the first rule that they break
+-- an image whose signature has these bytes, by the first rule that they break on any machine
 abbrev pub signed_report : Hash → List ℕ → Range → Image → List ℕ → Option BlobRefusal → SliceReport
 signed_report hash bytes slice image sig (Some refusal) = Refused (signed_refusals.refusal_of refusal)
-signed_report hash bytes slice image sig None = accepted hash bytes image (signature hash sig slice)
+signed_report hash bytes slice image sig None = accepted hash bytes image (signature hash sig slice None)
 
 -- the bytes of an image, by what its load commands say
 abbrev pub image_report : Hash → List ℕ → Range → Image → SliceReport
 image_report hash bytes slice image =
-    signed_report hash bytes slice image (bytes_in bytes image.sig) (signed.broken hash (bytes_in bytes image.sig) slice)
+    signed_report hash bytes slice image (bytes_in bytes image.sig) (signed.broken hash (bytes_in bytes image.sig) slice None)
 
 -- a slice, by the first rule that it breaks as an image
 abbrev pub framed_report : Hash → List ℕ → Range → Option MachRefusal → SliceReport

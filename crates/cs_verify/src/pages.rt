@@ -1,8 +1,10 @@
 //! The hash pages of an image, held against the slots of its code directory.
 
-ghost use Rattle.std.specs.Prelude.{◌≡◌, ◌+◌, ◌*◌, ◌<◌, ◌≤◌, IfOk, length};
+ghost use Rattle.std.specs.Prelude.{◌≡◌, ◌*◌, ◌<◌, ◌≤◌, IfOk, OnOk, length, nat_lt, if◌then◌else◌};
+ghost use Rattle.pg_bytes.specs.Counts.{RoseBy};
 ghost use Rattle.cs_directory.specs.Directory.{IsDirectory};
-ghost use Rattle.cs_verify.specs.Pages.{hash_page, page_count, bad_pages};
+ghost use Rattle.cs_directory.specs.HashPages.{bytes_of};
+ghost use Rattle.cs_verify.specs.Pages.{hash_page, pages_of, slotted_pages, bad_pages};
 ghost use Rattle.cs_verify.specs.Pages as pages;
 
 use crate::report::BadPage;
@@ -10,17 +12,14 @@ use cs_directory::Directory;
 use pg_digest::{Digester, digest_bytes, digest_of};
 use std::alloc::{AllocError, Global};
 
-/// How many bytes a hash page has.
-const HASH_PAGE: u64 = 4096;
-
-/// How many hash pages so many bytes reach.
-pub fn page_count(limit: u64) -> u64
-    ensures { result ≡ page_count limit }
+/// How many hash pages of its own size a code directory's limit reaches.
+pub fn pages_of(directory: &Directory) -> u64
+    ensures { result ≡ pages_of directory.now }
 {
-    limit.div_ceil(HASH_PAGE)
+    directory.limit().div_ceil(directory.page_size())
 }
 
-/// The hash pages of an image that do not match or have no slot, ascending.
+/// The hash pages of an image that do not match or have no slot, ascending. Each that has a slot is hashed once.
 pub fn bad_pages<D: Digester>(
     alloc: Global,
     directory: &Directory,
@@ -30,12 +29,14 @@ pub fn bad_pages<D: Digester>(
 ) -> Result<Vec<BadPage>, AllocError>
     requires directory { IsDirectory directory_bytes.now directory.now }
     requires limited { directory.now.limit ≤ length image.now }
-    ensures { IfOk result (λ bad.
+    ensures bad { IfOk result (λ bad.
         bad.items ≡ bad_pages D.hash directory.now directory_bytes.now image.now) }
+    ensures digests { OnOk result
+        (RoseBy (slotted_pages directory.now) (D.calls d.old) (D.calls d.new)) }
 {
     let signed = &image[..directory.limit() as usize];
     let mut bad = Vec::new(alloc);
-    for page in 0..page_count(directory.limit()) {
+    for page in 0..pages_of(directory) {
         if let Some(wrong) = bad_page(directory, directory_bytes, signed, page, d) {
             bad.push(wrong)?;
         }
@@ -43,14 +44,14 @@ pub fn bad_pages<D: Digester>(
     Ok(bad)
 }
 
-/// The bytes of one hash page: the last may be short.
+/// The bytes of one hash page of a size: the last may be short.
 #[tactic(auto, unfolding(crate::specs::Pages::hash_page))]
-fn hash_page(signed: &[u8], page: u64) -> &[u8]
-    requires { page * 4096 < length signed.now }
-    ensures { result.now ≡ hash_page signed.now page }
+fn hash_page(size: u64, signed: &[u8], page: u64) -> &[u8]
+    requires { page * size < length signed.now }
+    ensures { result.now ≡ hash_page size signed.now page }
 {
-    let (_, rest) = signed.split_at((page * HASH_PAGE) as usize);
-    &rest[..(HASH_PAGE as usize).min(rest.len())]
+    let (_, rest) = signed.split_at((page * size) as usize);
+    &rest[..(size as usize).min(rest.len())]
 }
 
 /// What is wrong with one hash page, if anything is.
@@ -63,8 +64,11 @@ fn bad_page<D: Digester>(
     d: &mut D,
 ) -> Option<BadPage>
     requires directory { IsDirectory directory_bytes.now directory.now }
-    requires inside { page * 4096 < length signed.now }
-    ensures { result ≡ pages.bad_page D.hash directory.now directory_bytes.now signed.now page }
+    requires inside { page * bytes_of directory.now.page < length signed.now }
+    ensures wrong { result ≡
+        pages.bad_page D.hash directory.now directory_bytes.now signed.now page }
+    ensures once { RoseBy (if nat_lt page directory.now.code_slots then 1 else 0)
+        (D.calls d.old) (D.calls d.new) }
 {
     let Some(wanted) = directory.slot(directory_bytes, page) else {
         return Some(BadPage {
@@ -73,7 +77,8 @@ fn bad_page<D: Digester>(
             wanted: None,
         });
     };
-    let found = d.hash(directory.kind(), hash_page(signed, page));
+    let bytes = hash_page(directory.page_size(), signed, page);
+    let found = d.hash(directory.kind(), bytes);
     if digest_bytes(&found) == wanted {
         return None;
     }

@@ -6,9 +6,10 @@ use pg_bytes::Octets;
 use pg_digest::{Digest, HashKind};
 use std::alloc::{AllocError, AllocFailed};
 use std::marker::Model;
+use thiserror::Error;
 
-/// A hash page below the limit that does not match its slot. A hash page has 4,096 bytes, the last one those up to
-/// the limit.
+/// A hash page below the limit that does not match its slot. A hash page has as many bytes as the code directory says,
+/// the last one those up to the limit.
 #[derive(Clone, Copy, Debug, PartialEq, Eq)]
 pub struct BadPage {
     /// The page's number, counted from 0 in the slice, which is that of its slot.
@@ -102,11 +103,13 @@ impl SliceReport {
 }
 
 /// Why there is no report.
-#[derive(Clone, Copy, Debug, PartialEq, Eq)]
+#[derive(Clone, Copy, Debug, PartialEq, Eq, Error)]
 pub enum VerifyFail {
     /// The file is no file of Mach-O images.
+    #[error(transparent)]
     Refused(FatRefusal),
     /// Memory ran out.
+    #[error("out of memory")]
     NoMemory,
 }
 

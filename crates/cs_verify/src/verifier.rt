@@ -1,6 +1,7 @@
 //! The report of a file's bytes.
 
-ghost use Rattle.std.specs.Prelude.{◌≡◌, ◌+◌, ◌≤◌, All, IfOk, IfErr, length, map};
+ghost use Rattle.std.specs.Prelude.{◌≡◌, ◌+◌, ◌≤◌, All, IfOk, IfErr, OnOk, length, map, sum_by};
+ghost use Rattle.pg_bytes.specs.Counts.{RoseBy};
 ghost use Rattle.std.specs.List.{list_all};
 ghost use Rattle.macho_slices.specs.Rules as fat;
 ghost use Rattle.macho_slices.specs.Slices.{IsWithin};
@@ -8,8 +9,10 @@ ghost use Rattle.cs_directory.specs.Directory.{IsDirectory};
 ghost use Rattle.cs_verify.specs.Report.{IsReport, accepted, image_report, slice_report};
 ghost use Rattle.cs_verify.specs.Report as saying;
 ghost use Rattle.cs_verify.specs.Fails.{Refuses};
+ghost use Rattle.cs_verify.specs.Pages.{slotted_pages};
+ghost use Rattle.cs_verify.specs.Digests.{slice_digests, image_digests, report_digests, HasDigests};
 
-use crate::pages::{bad_pages, page_count};
+use crate::pages::{bad_pages, pages_of};
 use crate::report::{BadPages, SliceReport, VerifyFail};
 use cs_blob::{Blob, BlobFail, blob};
 use macho_cmds::{Image, MachFail, image};
@@ -20,7 +23,9 @@ use std::alloc::{AllocError, Global};
 
 /// The report of a file: for each slice, in order, the first rule that it breaks, or what it is and each hash page
 /// below the limit that does not match its slot or has none. The refusal is that of a file that is no file of
-/// Mach-O images. The other error is want of memory.
+/// Mach-O images. The other error is want of memory. No size of a machine's pages is given, so a report is the same on
+/// each machine. The digester is called once for each hash page that has a slot, besides the calls of `cs_blob` for the
+/// signature of each slice, its cdhash among them.
 pub fn verify<D: Digester>(
     alloc: Global,
     bytes: &[u8],
@@ -28,6 +33,8 @@ pub fn verify<D: Digester>(
 ) -> Result<Vec<SliceReport>, VerifyFail>
     ensures report { IfOk result (λ found. IsReport D.hash bytes.now found.items) }
     ensures refused { IfErr result (Refuses (fat.broken bytes.now)) }
+    ensures digests { HasDigests (report_digests D.hash bytes.now) result
+        (D.calls d.old) (D.calls d.new) }
 {
     let found = slices(alloc, bytes)?;
     Ok(slice_reports(alloc, bytes, &found, d)?)
@@ -41,7 +48,10 @@ fn slice_reports<D: Digester>(
     d: &mut D,
 ) -> Result<Vec<SliceReport>, AllocError>
     requires { All (IsWithin bytes.now) found.now }
-    ensures { IfOk result (λ said. said.items ≡ map (slice_report D.hash bytes.now) found.now) }
+    ensures reports { IfOk result (λ said.
+        said.items ≡ map (slice_report D.hash bytes.now) found.now) }
+    ensures digests { OnOk result
+        (RoseBy (sum_by (slice_digests D.hash bytes.now) found.now) (D.calls d.old) (D.calls d.new)) }
 {
     let mut reports = Vec::with_capacity(alloc, found.len())?;
     for slice in found {
@@ -58,7 +68,9 @@ fn slice_report<D: Digester>(
     d: &mut D,
 ) -> Result<SliceReport, AllocError>
     requires { slice.now.at + slice.now.len ≤ length bytes.now }
-    ensures { IfOk result (λ said. said ≡ slice_report D.hash bytes.now slice.now) }
+    ensures report { IfOk result (λ said. said ≡ slice_report D.hash bytes.now slice.now) }
+    ensures digests { OnOk result
+        (RoseBy (slice_digests D.hash bytes.now slice.now) (D.calls d.old) (D.calls d.new)) }
 {
     match image(alloc, bytes, slice) {
         Ok(image) => image_report(alloc, bytes_in(bytes, slice), slice, &image, d),
@@ -77,23 +89,17 @@ fn image_report<D: Digester>(
 ) -> Result<SliceReport, AllocError>
     requires inside { image.now.sig.at + image.now.sig.len ≤ length bytes.now }
     requires whole { length bytes.now ≡ slice.now.len }
-    ensures { IfOk result (λ said. said ≡ image_report D.hash bytes.now slice.now image.now) }
+    ensures report { IfOk result (λ said.
+        said ≡ image_report D.hash bytes.now slice.now image.now) }
+    ensures digests { OnOk result (RoseBy (image_digests D.hash bytes.now slice.now image.now)
+        (D.calls d.old) (D.calls d.new)) }
 {
-    let signature = copy_of(alloc, bytes_in(bytes, &image.sig))?;
-    match blob(alloc, signature, slice, d) {
+    let signature = bytes_in(bytes, &image.sig).to_vec(alloc)?;
+    match blob(alloc, signature, slice, None, d) {
         Ok(blob) => accepted(alloc, bytes, image, &blob, d),
         Err(BlobFail::Refused(refusal)) => Ok(SliceReport::Refused(refusal.into())),
         Err(BlobFail::NoMemory) => Err(AllocError),
     }
-}
-
-/// The same bytes in memory of their own.
-fn copy_of(alloc: Global, bytes: &[u8]) -> Result<Vec<u8>, AllocError>
-    ensures { IfOk result (λ copy. copy.items ≡ bytes.now) }
-{
-    let mut copy = Vec::with_capacity(alloc, bytes.len())?;
-    copy.extend_from_slice(bytes)?;
-    Ok(copy)
 }
 
 /// What is said of an image whose signature is accepted.
@@ -106,7 +112,9 @@ fn accepted<D: Digester>(
 ) -> Result<SliceReport, AllocError>
     requires directory { IsDirectory blob.now.best_bytes blob.now.best }
     requires limited { blob.now.best.limit ≤ length bytes.now }
-    ensures { IfOk result (λ said. said ≡ accepted D.hash bytes.now image.now blob.now) }
+    ensures report { IfOk result (λ said. said ≡ accepted D.hash bytes.now image.now blob.now) }
+    ensures digests { OnOk result
+        (RoseBy (slotted_pages blob.now.best) (D.calls d.old) (D.calls d.new)) }
 {
     let best = blob.best();
     let bad = bad_pages(alloc, best, blob.best_bytes(), bytes, d)?;
@@ -119,9 +127,9 @@ fn accepted<D: Digester>(
         flags: best.flags(),
         limit: best.limit(),
         slots: best.slots(),
-        ident: Octets::new(copy_of(alloc, best.ident(blob.best_bytes()))?),
+        ident: Octets::new(best.ident(blob.best_bytes()).to_vec(alloc)?),
         bad: BadPages::new(bad),
-        pages: page_count(best.limit()),
+        pages: pages_of(best),
     })
 }
 

@@ -10,7 +10,8 @@ use Rattle.pg_bytes.specs.declared.Status.{Status}
 use Rattle.pg_bytes.specs.declared.Status.TheVariants as status
 use Rattle.pg_io.specs.Files.{Told, next_read, after_read}
 use Rattle.pg_io.specs.Sink.{SentPart}
-use Rattle.cs_directory.specs.Layout.{special_slots, limit}
+use Rattle.cs_directory.specs.HashPages.{bytes_of}
+use Rattle.cs_directory.specs.Layout.{special_slots, page, limit}
 use Rattle.cs_directory.specs.Rules.{broken}
 use Rattle.cs_directory.specs.Directory.{cdhash}
 use Rattle.csrun.specs.declared.scene.Touch.{Touch}
@@ -69,13 +70,14 @@ first_misfit [] = None
 first_misfit (misfit ∷ misfits) = if misfit.0 then Some misfit.1 else first_misfit misfits
 
 -- the tests on the file's line: the file has at most 1,048,576 bytes, the signature lies in it, and is a code
--- directory without special slots whose limit the file reaches
+-- directory without special slots and with hash pages of 4,096 bytes, whose limit the file reaches
 abbrev pub file_misfits : Plan → List ℕ → List Misfit
 file_misfits plan bytes =
     (nat_lt 1048576 (length bytes), 2)
     ∷ (nat_lt (length bytes) (plan.off + plan.len), 2)
     ∷ (is_some (broken (signature_in plan bytes)), 2)
     ∷ (not (special_slots (signature_in plan bytes) == 0), 2)
+    ∷ (not (bytes_of (page (signature_in plan bytes)) == 4096), 2)
     ∷ (nat_lt (length bytes) (limit (signature_in plan bytes)), 2)
     ∷ []
 

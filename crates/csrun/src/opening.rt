@@ -47,7 +47,10 @@ fn fitting_directory<'a>(scene: &Scene, bytes: &'a [u8]) -> Option<(Directory, &
     }
     let signature = part(bytes, &scene.signature)?;
     let directory = directory(signature).ok()?;
-    if directory.special_slots() != 0 || directory.limit() > bytes.len() as u64 {
+    if directory.special_slots() != 0
+        || directory.page_size() != PAGE
+        || directory.limit() > bytes.len() as u64
+    {
         return None;
     }
     Some((directory, signature))

@@ -93,7 +93,7 @@ fn run(alloc: Global, scene: &str, bytes: Vec<u8>, outside: Outside) -> Result<E
     let reads = Vec::from_slice(alloc, outside.reads)?;
     let writes = Vec::from_slice(alloc, outside.writes)?;
     let mut files = MemFiles::new(names, contents, reads);
-    let mut out = MemSink::open(alloc, outside.room, writes)?;
+    let mut out = MemSink::open(alloc, outside.room, usize::MAX, writes)?;
     let status = csrun_main(alloc, &words, &mut files, &mut out);
     let text = Vec::from_slice(alloc, out.bytes())?;
     Ok(Ended { status, text })
@@ -282,7 +282,7 @@ fn wrong_words(rt: HostRuntime) -> Result<(), Fail> {
         for _ in 0..count {
             words.push(String::from_str(alloc, "solo")?)?;
         }
-        let mut out = MemSink::open(alloc, 100, Vec::new(alloc))?;
+        let mut out = MemSink::open(alloc, 100, 100, Vec::new(alloc))?;
         assert_eq!(rt;
             csrun_main(alloc, &words, &mut files, &mut out),
             Status::Usage

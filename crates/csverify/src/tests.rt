@@ -109,7 +109,7 @@ fn run(
     let reads = Vec::from_slice(alloc, outside.reads)?;
     let writes = Vec::from_slice(alloc, outside.writes)?;
     let mut files = MemFiles::new(names, contents, reads);
-    let mut out = MemSink::open(alloc, outside.room, writes)?;
+    let mut out = MemSink::open(alloc, outside.room, usize::MAX, writes)?;
     let status = csverify_main(alloc, &given, &mut files, &mut out);
     let text = Vec::from_slice(alloc, out.bytes())?;
     Ok(Ended { status, text })

@@ -18,7 +18,8 @@ use std::alloc::Global;
 /// hash page below the limit matches its slot; it is NotSealed where a file of at most 67,108,864 bytes was read and
 /// this does not hold. Of the others Usage is for words in which the command line finds a fault, FileFault of item 0
 /// for a file that could not be read, and Limit for a longer one, each with its line; SinkFault is for output that
-/// could not be written whole, and NoMemory for want of memory. The whole text is made before the first write.
+/// could not be written whole, and NoMemory for want of memory. The whole text is made before the first write. Each hash
+/// page that has a slot is hashed once, as `verify` of `cs_verify` bounds it.
 pub fn csverify_main<F: Files, K: Sink>(
     alloc: Global,
     words: &[String],
