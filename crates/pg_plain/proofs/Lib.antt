@@ -7,3 +7,5 @@ pub mod VerdictFacts
 pub mod GiveFacts
 pub mod ChangeFacts
 pub mod StepFacts
+pub mod ContentFacts
+pub mod ReplyFacts

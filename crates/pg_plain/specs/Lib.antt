@@ -5,3 +5,5 @@ pub mod Calls
 pub mod Given
 pub mod Steps
 pub mod Keep
+pub mod Content
+pub mod Replies

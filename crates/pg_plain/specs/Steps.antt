@@ -36,22 +36,24 @@ Answer = FileReply × PlainFile
 
 -- ---- signatures
 
+-- the bytes that were read, unless the read of a page failed
+abbrev pub read_or_fault : Option ℕ → List ℕ → FileReply
+read_or_fault None bytes = reply.Read bytes
+read_or_fault (Some page) bytes = reply.PagerFault page
+
+-- by the slice, where there are so many
+abbrev pub read_slice : PlainFile → ℕ → Option SliceSeat → Option ℕ → FileReply
+read_slice file count None failed = reply.NoSlice count
+read_slice file count (Some (seat.Refused refusal)) failed = reply.NoImage refusal
+read_slice file count (Some (seat.Signed slice sig)) failed = read_or_fault failed (bytes_of_file file sig.at sig.len)
+
+abbrev pub read_of : PlainFile → Layout → ℕ → Option ℕ → FileReply
+read_of file (layout.Refused refusal) slice failed = reply.NoSlices refusal
+read_of file (layout.Slices seats) slice failed = read_slice file (length seats) (slice_get seats slice) failed
+
 -- The signature of a slice is read: why there is none, or else its present bytes.
 abbrev pub read_signature : PlainFile → ℕ → Option ℕ → FileReply
-read_signature file slice failed = by_layout file.layout
-  where
-    by_call : Option ℕ → List ℕ → FileReply
-    by_call None bytes = reply.Read bytes
-    by_call (Some page) bytes = reply.PagerFault page
-
-    by_seat : ℕ → Option SliceSeat → FileReply
-    by_seat count None = reply.NoSlice count
-    by_seat count (Some (seat.Refused refusal)) = reply.NoImage refusal
-    by_seat count (Some (seat.Signed s sig)) = by_call failed (bytes_of_file file sig.at sig.len)
-
-    by_layout : Layout → FileReply
-    by_layout (layout.Refused refusal) = reply.NoSlices refusal
-    by_layout (layout.Slices seats) = by_seat (length seats) (slice_get seats slice)
+read_signature file slice failed = read_of file file.layout slice failed
 
 -- the attached signature is of the slice and has the cdhash
 abbrev pub is_same_blob : ℕ → List ℕ → Attached → Bool

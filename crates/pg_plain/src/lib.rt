@@ -8,4 +8,4 @@
 
 mod laws;
 
-pub use laws::{opening_keeps, steps_keep};
+pub use laws::{opening_keeps, pages_are_content, replies_fit, steps_keep};
