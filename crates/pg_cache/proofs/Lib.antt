@@ -1,11 +1,14 @@
 pub mod BringFacts
+pub mod BufferFacts
 pub mod ChangeFacts
 pub mod ContentsFacts
 pub mod GiveFacts
 pub mod HeldFacts
 pub mod Laws
-pub mod MadeLaws
 pub mod ListFacts
 pub mod SizeFacts
 pub mod SoundFacts
+pub mod QueueFacts
 pub mod StepFacts
+pub mod StoreFacts
+pub mod MadeLaws

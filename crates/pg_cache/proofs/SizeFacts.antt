@@ -1,5 +1,5 @@
 -- Each step leaves whole pages.
-use Rattle.std.proofs.Common.{◌≡◌, ℕ, ◌+◌, ◌-◌, ◌<◌, ◌≤◌, ◌==◌, List, [], ◌∷◌, length, take, get_or, Bool, true, false, Some, None, refl, sym, subst, ◌∙◌, arith}
+use Rattle.std.proofs.Common.{◌≡◌, ℕ, ◌+◌, ◌-◌, ◌≤◌, ◌==◌, List, [], ◌∷◌, length, take, Bool, true, false, Some, None, refl, sym, subst, ◌∙◌, arith}
 use Rattle.std.specs.Prelude.{All, Option, IfSome, if◌then◌else◌}
 use Rattle.std.specs.Option.{option_map}
 use Rattle.std.proofs.lemmas.Grind.{common_steps}
@@ -100,18 +100,6 @@ sized_write c page failed bytes pager held spare sized write long whole whole_sp
   spare = subst (λ n. IfSome spare (IsWhole n)) (sym write.page_size) whole_spare;
   tells = tells_write c.pager pager page failed bytes write long sized.tells;
 }
-
--- the page at a place of the list
-pub whole_at : (size : ℕ) (held : List Held) (place : ℕ) (entry : Held) → AreWhole size held → place < length held → entry ≡ get_or held place entry → IsWhole size entry
-whole_at size held place entry whole inside there = subst (IsWhole size) (sym there) (whole place entry inside)
-
--- ---- the same, for lists and pages that are equal
-
-pub sized_with : (limit : ℕ) (spare : Option Held) (pager : PagerNow) (held held' : List Held) → held' ≡ held → IsSized (record { held = held; limit = limit; spare = spare; pager = pager }) → IsSized (record { held = held'; limit = limit; spare = spare; pager = pager })
-sized_with limit spare pager held held' same sized = subst (λ (l : List Held). IsSized (record { held = l; limit = limit; spare = spare; pager = pager })) (sym same) sized
-
-pub sized_with_spare : (held : List Held) (limit : ℕ) (pager : PagerNow) (h h' : Held) → h' ≡ h → IsSized (record { held = held; limit = limit; spare = Some h; pager = pager }) → IsSized (record { held = held; limit = limit; spare = Some h'; pager = pager })
-sized_with_spare held limit pager h h' same sized = subst (λ (x : Held). IsSized (record { held = held; limit = limit; spare = Some x; pager = pager })) (sym same) sized
 
 -- a resident page goes to the front
 pub fronted_sized : (c : CacheNow) (page : ℕ) (entry : Held) → IsSized c → find_held c.held page ≡ Some entry → IsSized (record c { held = entry ∷ without c.held page })

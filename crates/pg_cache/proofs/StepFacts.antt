@@ -1,16 +1,14 @@
 -- Each step leaves a cache of which the same is true as before.
-use Rattle.std.proofs.Common.{◌≡◌, ◌≢◌, ℕ, zero, suc, ◌+◌, ◌-◌, ◌<◌, ◌==◌, List, [], ◌∷◌, length, take, Bool, true, false, Some, None, refl, ap, sym, subst, ◌∙◌, arith, rules}
-use Rattle.std.specs.Prelude.{Option, IfSome, IsSome, MatchOption, MatchBool, Ok, Result, is_some, slice_get, slice_set, if◌then◌else◌}
+use Rattle.std.proofs.Common.{◌≡◌, ◌≢◌, ℕ, ◌-◌, ◌<◌, ◌==◌, List, [], ◌∷◌, length, take, Bool, true, false, Some, None, refl, ap, sym, subst, ◌∙◌, arith}
+use Rattle.std.specs.Prelude.{Option, IfSome, MatchOption, Ok, Result, is_some, slice_get, slice_set, if◌then◌else◌}
 use Rattle.std.specs.Option.{option_map}
 use Rattle.std.proofs.lemmas.Grind.{common_steps}
-use Rattle.std.proofs.lemmas.List.{length-take, take_all}
-use Rattle.std.proofs.lemmas.Option.{slice_get_past}
-use Rattle.pg_cache.specs.Steps.{Saves, WritesBack, WritesThrough, Evicts, Leaves, Fills, Enters, TakesPlace, Brings}
+use Rattle.std.proofs.lemmas.List.{length-take}
+use Rattle.pg_cache.specs.Steps.{Saves, WritesThrough, Evicts, Leaves, Fills, Enters, TakesPlace, Brings}
 use Rattle.pg_cache.specs.declared.fault.PagerFault.{PagerFault}
 use Rattle.pg_io.specs.Pager.{PagerNow, ToldPages, TellsWhole, IsRead, IsWrite, after_call, with_page}
-use Rattle.pg_io.specs.PageBytes.{written_over}
 use Rattle.pg_cache.specs.Held.{Held, clean, find_held, without, fronted, fronted_by, changed, dirtied, cleaned}
-use Rattle.pg_cache.specs.Cache.{CacheNow, AreKept, IsBeside, IsListed, spare_of}
+use Rattle.pg_cache.specs.Cache.{CacheNow, AreKept, IsBeside, IsListed}
 use Rattle.pg_cache.proofs.HeldFacts.{found_page, changed-absent, absent-without, absent-take, absent-changed}
 use Rattle.pg_cache.proofs.SoundFacts.{kept_map, kept_find, kept_without, gone_without, kept_take, kept_changed, length-without, length-changed, absent_front, told_written, kept_called, kept_written, kept_absent_written, kept_dirty, kept_saved, get-set_same}
 
@@ -173,13 +171,7 @@ written_sound c page bytes pager sound inside whole write =
       beside = tt;
     }
 
--- ---- the same, for lists and pages that are equal
-
-pub with_held : (limit : ℕ) (spare : Option Held) (pager : PagerNow) (held held' : List Held) → held' ≡ held → IsListed (record { held = held; limit = limit; spare = spare; pager = pager }) → IsListed (record { held = held'; limit = limit; spare = spare; pager = pager })
-with_held limit spare pager held held' same sound = subst (λ (l : List Held). IsListed (record { held = l; limit = limit; spare = spare; pager = pager })) (sym same) sound
-
-pub with_spare : (held : List Held) (limit : ℕ) (pager : PagerNow) (h h' : Held) → h' ≡ h → IsListed (record { held = held; limit = limit; spare = Some h; pager = pager }) → IsListed (record { held = held; limit = limit; spare = Some h'; pager = pager })
-with_spare held limit pager h h' same sound = subst (λ (x : Held). IsListed (record { held = held; limit = limit; spare = Some x; pager = pager })) (sym same) sound
+-- ---- calls of the pager
 
 -- a call that is known to have failed, or not
 pub read_as : (old : PagerNow) (page : ℕ) (failed failed' : Bool) (bytes : List ℕ) (new : PagerNow) → failed ≡ failed' → IsRead old page failed bytes new → IsRead old page failed' bytes new
@@ -187,14 +179,6 @@ read_as old page failed failed' bytes new same read = subst (λ b. IsRead old pa
 
 pub write_as : (old : PagerNow) (page : ℕ) (failed failed' : Bool) (bytes : List ℕ) (new : PagerNow) → failed ≡ failed' → IsWrite old page failed bytes new → IsWrite old page failed' bytes new
 write_as old page failed failed' bytes new same write = subst (λ b. IsWrite old page b bytes new) same write
-
--- a dirty page at a place of the list was written back
-pub saves_dirty : (view old new : CacheNow) (place : ℕ) (entry : Held) (failed : Bool) → view ≡ old → slice_get view.held place ≡ Some entry → entry.dirty ≡ true
-    → IsWrite view.pager entry.page failed entry.bytes new.pager → new ≡ record view { pager = new.pager } → IfSome (slice_get old.held place) (λ held. Saves old held failed new)
-saves_dirty view old new place entry failed is there is_dirty write others =
-    subst (λ (v : CacheNow). IfSome (slice_get v.held place) (λ held. Saves v held failed new)) is
-    (subst (λ o. IfSome o (λ held. Saves view held failed new)) (sym there)
-    (subst (λ b. MatchBool b (WritesBack view entry failed new) ((failed ≡ false) × (new ≡ view))) (sym is_dirty) (record { write = write; others = others })))
 
 -- a page that is not in the list was written through
 pub through_absent : (view old new : CacheNow) (page : ℕ) (bytes : List ℕ) (failed : Bool) → view ≡ old → find_held view.held page ≡ None → IsWrite view.pager page failed bytes new.pager
@@ -211,56 +195,7 @@ through_absent view old new page bytes failed is absent write others =
     held_of true = refl
     held_of false = sym (changed-absent (cleaned bytes) view.held page absent)
 
--- the list stays where a page of it is saved
-pub held-saves : (old new : CacheNow) (h : Held) (failed : Bool) → Saves old h failed new → new.held ≡ old.held
-held-saves old new h failed saves = held_of h.dirty saves
-  where
-    held_of : (b : Bool) → MatchBool b (WritesBack old h failed new) ((failed ≡ false) × (new ≡ old)) → new.held ≡ old.held
-    held_of true s = ap (λ (c : CacheNow). c.held) s.others
-    held_of false s = ap (λ (c : CacheNow). c.held) s.1
-
--- the number of the page that left for another
-pub leaver_of : (held : List Held) (used limit free : ℕ) (leaver : Option ℕ) → used ≡ length held → used + free ≡ limit → 0 < limit → (0 < free → leaver ≡ None)
-    → (free ≡ 0 → leaver ≡ option_map (λ (h : Held). h.page) (slice_get held (used - 1))) → leaver ≡ option_map (λ (h : Held). h.page) (slice_get held (limit - 1))
-leaver_of held used limit zero leaver long all some stays leaves =
-    let same : used ≡ limit = omega arith in
-    leaves refl ∙ ap (λ n. option_map (λ (h : Held). h.page) (slice_get held (n - 1))) same
-leaver_of held used limit (suc free) leaver long all some stays leaves =
-    stays (omega arith) ∙ ap (option_map (λ (h : Held). h.page)) (sym (slice_get_past held (limit - 1) (omega arith)))
-
--- the pages that stay where another enters
-pub stayers_of : (held now : List Held) (used limit free : ℕ) → used ≡ length held → used + free ≡ limit → 0 < limit → (0 < free → now ≡ held)
-    → (free ≡ 0 → now ≡ take (used - 1) held) → now ≡ take (limit - 1) held
-stayers_of held now used limit zero long all some stays leaves =
-    let same : used ≡ limit = omega arith in
-    leaves refl ∙ ap (λ n. take (n - 1) held) same
-stayers_of held now used limit (suc free) long all some stays leaves = stays (omega arith) ∙ sym (take_all (limit - 1) held (omega arith))
-
--- as many buffers as before
-pub count_of : (held : List Held) (used limit free now now_free : ℕ) (kept : List Held) → used ≡ length held → used + free ≡ limit → 0 < limit → now ≡ length kept + 1 → kept ≡ take (limit - 1) held
-    → (0 < free → now_free + 1 ≡ free) → (free ≡ 0 → now_free ≡ 0) → now + now_free ≡ limit
-count_of held used limit zero now now_free kept long all some grew stays frees none =
-    let l = ap length stays ∙ length-take (limit - 1) held in
-    let n = none refl in
-    omega arith
-count_of held used limit (suc free) now now_free kept long all some grew stays frees none =
-    let l = ap length stays ∙ length-take (limit - 1) held in
-    let f = frees (omega arith) in
-    omega arith
-
--- the page in the spare buffer is the one that was asked for
-pub spare_is : (has : Bool) (s : Held) (page : ℕ) → IsSome (spare_of (if has then Some s else None) page) → (has ≡ true) × (s.page ≡ page)
-spare_is false s page some = absurd (search rules)
-spare_is true s page some = (refl, page_of (s.page == page) refl some)
-  where
-    page_of : (b : Bool) → (s.page == page) ≡ b → IsSome (if s.page == page then Some s else None) → s.page ≡ page
-    page_of true e some = grind (arith, common_steps, e)
-    page_of false e some = absurd (let h = subst (λ b. IsSome (if b then Some s else None)) e some in search rules)
-
-pub at_spare : (has : Bool) (s : Held) (P : Held → Type 0) → has ≡ true → P s → IfSome (if has then Some s else None) P
-at_spare has s P stands holds = subst (λ b. IfSome (if b then Some s else None) P) (sym stands) holds
-
--- a page was written through from the spare buffer, under its number there
+-- a page was written, and its number is known by another name
 pub write_to : (old : PagerNow) (at page : ℕ) (failed failed' : Bool) (bytes : List ℕ) (new : PagerNow) → at ≡ page → failed ≡ failed' → IsWrite old at failed bytes new → IsWrite old page failed' bytes new
 write_to old at page failed failed' bytes new same known write = subst (λ p. IsWrite old p failed' bytes new) same (write_as old at failed failed' bytes new known write)
 
@@ -275,14 +210,6 @@ evicts_ok old saved new page entry found saves leaves =
       leaves = leaves ∙ ap (λ p. record saved { held = without saved.held p }) (sym (found_page old.held page entry found));
       answer = refl;
     })
-
--- the page in the spare buffer was written through, with bytes written over a part of it
-pub through_spare : (has : Bool) (s : Held) (view old new : CacheNow) (page : ℕ) (failed : Bool) (at : ℕ) (piece : List ℕ) → view ≡ old → view.spare ≡ (if has then Some s else None) → has ≡ true
-    → find_held view.held page ≡ None → IsWrite view.pager page failed (written_over s.bytes at piece) new.pager → new ≡ record { held = view.held; limit = view.limit; spare = None; pager = new.pager }
-    → IfSome old.spare (λ held. WritesThrough old page (written_over held.bytes at piece) failed new)
-through_spare has s view old new page failed at piece is spare stands absent write others =
-    let here : old.spare ≡ Some s = sym (ap (λ (c : CacheNow). c.spare) is) ∙ spare ∙ ap (λ b. if b then Some s else None) stands in
-    subst (λ o. IfSome o (λ held. WritesThrough old page (written_over held.bytes at piece) failed new)) (sym here) (through_absent view old new page (written_over s.bytes at piece) failed is absent write others)
 
 -- a page that was not resident entered
 none_of : (o : Option Held) → is_some o ≡ false → o ≡ None

@@ -6,5 +6,5 @@ pub mod Gives
 pub mod Finds
 pub use Rattle.pg_io.specs.PageBytes
 pub use Rattle.pg_io.specs.Pager
-pub mod Place
 pub mod Buffers
+pub mod Store

@@ -10,8 +10,8 @@ ghost use Rattle.pg_cache.specs.contracts.cache.Cache.{the_row};
 
 use crate::NoMemory;
 use crate::fault::PagerFault;
-use crate::page::Page;
-use pg_io::Pager;
+use crate::store::Store;
+use pg_io::{PageBuffer, Pager};
 use std::alloc::Global;
 use std::marker::Model;
 
@@ -25,40 +25,28 @@ mod steps;
 #[derive(Drop)]
 pub struct Cache<P: Pager> {
     pager: P,
-    limit: usize,
-    // The resident pages, most recent first.
-    held: Vec<Page>,
-    spare: Page,
+    // The resident pages, and the spare frame.
+    store: Store,
     has_spare: bool,
-    // The buffers that no page stands in.
-    free: Vec<Page>,
+    // A page that is to be written is made here.
+    buffer: PageBuffer,
 }
 
 impl<P: Pager> Model for Cache<P> {
-    ghost use Rattle.std.specs.Prelude.{None, Some, if◌then◌else◌};
     ghost use Rattle.pg_cache.specs.Cache.{CacheNow};
-    ghost use Rattle.pg_cache.specs.Buffers.{HasBuffers};
+    ghost use Rattle.pg_cache.specs.Buffers.{cache_of, HasBuffers};
 
     ghost Value = { CacheNow };
 
-    ghost view = { λ cache. record {
-      held = cache.held.items;
-      limit = cache.limit;
-      spare = if cache.has_spare then Some cache.spare else None;
-      pager = P.shows cache.pager;
-    } };
+    ghost view = { λ cache. cache_of cache.store cache.has_spare (P.shows cache.pager) };
 
-    ghost invariant = { λ cache. HasBuffers cache.held cache.free cache.spare (record {
-      held = cache.held.items;
-      limit = cache.limit;
-      spare = if cache.has_spare then Some cache.spare else None;
-      pager = P.shows cache.pager;
-    }) };
+    ghost invariant = { λ cache. HasBuffers cache.store cache.buffer cache.has_spare (P.shows cache.pager) };
 }
 
 impl<P: Pager> Cache<P> {
     /// A cache over this pager in which no page is resident, and at most `limit` pages will be. All memory
-    /// that it ever uses is taken here: a buffer for each of these pages, and a spare one.
+    /// that it ever uses is taken here: a buffer for each of these pages and two more, and a table of all pages
+    /// of the pager.
     pub fn open(alloc: Global, pager: P, limit: u32) -> Result<Cache<P>, NoMemory>
         requires some { 0 < limit }
         requires most { limit ≤ 4096 }
@@ -67,17 +55,13 @@ impl<P: Pager> Cache<P> {
         ensures sound { IfOk result IsSound }
     {
         let page_size = pager.page_size();
-        let limit = limit as usize;
-        let free = steps::buffers(alloc, limit, page_size)?;
-        let held = Vec::with_capacity(alloc, limit)?;
-        let spare = Page::new(alloc, page_size)?;
+        let store = Store::open(alloc, limit, page_size, pager.pages())?;
+        let buffer = PageBuffer::zeros(alloc, page_size)?;
         Ok(Cache {
             pager,
-            limit,
-            held,
-            spare,
+            store,
             has_spare: false,
-            free,
+            buffer,
         })
     }
 
@@ -86,7 +70,7 @@ impl<P: Pager> Cache<P> {
         ensures limit { result ≡ self.now.limit }
         ensures sound { IsSound self.now }
     {
-        self.limit as u32
+        self.store.limit()
     }
 
     /// How many pages the file has.
@@ -112,7 +96,7 @@ impl<P: Pager> Cache<P> {
         ensures resident { result ≡ is_some (resident_page self.now page) }
         ensures sound { IsSound self.now }
     {
-        self.place(page).is_some()
+        self.store.has(page)
     }
 
     /// The page that stands in the spare buffer, if one does: it was read and is not resident.
@@ -121,7 +105,7 @@ impl<P: Pager> Cache<P> {
         ensures sound { IsSound self.now }
     {
         if self.has_spare {
-            Some(self.spare.number())
+            Some(self.store.spare_page())
         } else {
             None
         }

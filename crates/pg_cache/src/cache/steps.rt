@@ -1,30 +1,18 @@
-//! The steps of a cache's calls over its buffers: the pager calls, and what each moves.
+//! The steps of a cache's calls over its store: the pager calls, and what each moves.
 
-ghost use Rattle.std.specs.Prelude.{◌≡◌, ◌+◌, ◌-◌, ◌==◌, ◌<◌, ◌≤◌, false, All, Some, None, ℕ, IsSome, MatchOption, IfSome, IfOk, IfErr, OnOk, option_map, is_some, is_err, length, vec_len, vec_capacity, take, position, slice_get};
+ghost use Rattle.std.specs.Prelude.{◌≡◌, ◌+◌, ◌<◌, ◌≤◌, Some, None, IsSome, IfSome, IfErr, OnOk, option_map, is_some, is_err, length};
 ghost use Rattle.pg_io.specs.PageBytes.{written_over};
+ghost use Rattle.pg_io.specs.Pager.{IsWrite};
 ghost use Rattle.pg_cache.specs.Held.{changed, fronted, dirtied};
-ghost use Rattle.pg_cache.specs.Place.{IsAt};
-ghost use Rattle.pg_cache.specs.Cache.{resident_page, contents, victim, in_spare, at_hand, IsWhole, IsSound, KeepsSizes};
+ghost use Rattle.pg_cache.specs.Cache.{resident_page, contents, victim, in_spare, at_hand, IsSound, KeepsSizes};
 ghost use Rattle.pg_cache.specs.Gives.{PeekLeaves};
 ghost use Rattle.pg_cache.specs.Steps.{entered, ReadsSpare, Saves, SavesVictim, WritesThrough, Peeks, Fills, Brings, Writes, Evicts};
 
 use super::Cache;
-use crate::NoMemory;
 use crate::fault::PagerFault;
-use crate::page::Page;
-use pg_io::Pager;
-use std::alloc::Global;
-use std::mem;
+use pg_io::{Failed, PageBuffer, Pager};
 
 impl<P: Pager> Cache<P> {
-    // Where a page stands in the list.
-    pub(crate) fn place(&self, page: u64) -> Option<usize>
-        ensures place { MatchOption result (resident_page self.now page ≡ None) (IsAt self.now.held page) }
-        ensures sound { IsSound self.now }
-    {
-        position_of(&self.held, page)
-    }
-
     // ---- a page comes
 
     // Reads a page that is not resident into the spare buffer.
@@ -36,7 +24,7 @@ impl<P: Pager> Cache<P> {
         ensures stands { OnOk result (IsSome (in_spare self.new page)) }
     {
         self.has_spare = false;
-        if self.spare.read(&mut self.pager, page).is_err() {
+        if self.store.read_spare(&mut self.pager, page).is_err() {
             return Err(PagerFault { page });
         }
         self.has_spare = true;
@@ -51,7 +39,7 @@ impl<P: Pager> Cache<P> {
         ensures ready { OnOk result (IsSome (at_hand self.new page)) }
         ensures sound { IsSound self.old }
     {
-        if self.place(page).is_some() {
+        if self.is_resident(page) {
             return Ok(());
         }
         self.read_spare(page)
@@ -75,10 +63,7 @@ impl<P: Pager> Cache<P> {
         ensures bytes { option_map (λ held. held.bytes) (at_hand self.now page) ≡ Some result.now }
         ensures sound { IsSound self.now }
     {
-        match self.place(page) {
-            Some(place) => self.held[place].bytes(),
-            None => self.spare.bytes(),
-        }
+        self.store.seat(page)
     }
 
     // Moves a resident page to the front of the list, and says whether it is resident.
@@ -87,19 +72,14 @@ impl<P: Pager> Cache<P> {
         ensures fronts { self.new ≡ record self.old { held = fronted self.old.held page } }
         ensures sound { IsSound self.old }
     {
-        let Some(place) = self.place(page) else {
-            return false;
-        };
-        let first = self.held.remove(place);
-        self.held.insert(0, first).unwrap();
-        true
+        self.store.to_front(page)
     }
 
     // Whether the page stands in the spare buffer.
     fn is_in_spare(&self, page: u64) -> bool
         ensures { result ≡ is_some (in_spare self.now page) }
     {
-        self.has_spare && self.spare.number() == page
+        self.has_spare && self.store.spare_page() == page
     }
 
     // Brings a page that is not resident to the spare buffer.
@@ -133,19 +113,17 @@ impl<P: Pager> Cache<P> {
 
     // ---- a page goes
 
-    // Writes the page at this place of the list to the pager, if it is dirty. It stays in the list as it is.
-    fn save(&mut self, place: usize) -> Result<(), PagerFault>
-        requires { place < length self.old.held }
-        ensures saves { IfSome (slice_get self.old.held place) (λ held. Saves self.old held (is_err result) self.new) }
-        ensures fault { IfErr result (λ fault. IfSome (slice_get self.old.held place) (λ held. fault.page ≡ held.page)) }
+    // Writes a resident page to the pager, if it is dirty. It stays in the list as it is.
+    fn save(&mut self, page: u64) -> Result<(), PagerFault>
+        requires { IsSome (resident_page self.old page) }
+        ensures saves { IfSome (resident_page self.old page) (λ held. Saves self.old held (is_err result) self.new) }
+        ensures fault { IfErr result (λ fault. fault.page ≡ page) }
         ensures spare { self.new.spare ≡ self.old.spare }
     {
-        let held = &self.held[place];
-        let page = held.number();
-        if !held.is_dirty() {
+        let Some(bytes) = self.store.dirty_bytes(page) else {
             return Ok(());
-        }
-        if held.write(&mut self.pager).is_err() {
+        };
+        if self.pager.write_page(page, bytes).is_err() {
             return Err(PagerFault { page });
         }
         Ok(())
@@ -158,10 +136,10 @@ impl<P: Pager> Cache<P> {
         ensures spare { self.new.spare ≡ self.old.spare }
         ensures victim { victim self.new ≡ victim self.old }
     {
-        if self.held.len() < self.limit {
-            return Ok(());
+        match self.store.victim() {
+            Some(page) => self.save(page),
+            None => Ok(()),
         }
-        self.save(self.limit - 1)
     }
 
     // Puts the page in the spare buffer at the front of the list, in the victim's place.
@@ -170,11 +148,8 @@ impl<P: Pager> Cache<P> {
         ensures enters { self.new ≡ entered self.old }
         ensures leaver { result ≡ option_map (λ held. held.page) (victim self.old) }
     {
-        let (buffer, leaver) = next_buffer(&mut self.free, &mut self.held);
-        let first = mem::replace(&mut self.spare, buffer);
         self.has_spare = false;
-        self.held.insert(0, first).unwrap();
-        leaver
+        self.store.enter()
     }
 
     // Takes a page out of the list.
@@ -183,12 +158,11 @@ impl<P: Pager> Cache<P> {
         ensures fault { IfErr result (λ fault. fault.page ≡ page) }
         ensures sound { IsSound self.old }
     {
-        let Some(place) = self.place(page) else {
+        if !self.is_resident(page) {
             return Ok(false);
-        };
-        self.save(place)?;
-        let buffer = self.held.remove(place);
-        self.free.push(buffer).unwrap();
+        }
+        self.save(page)?;
+        self.store.remove(page);
         Ok(true)
     }
 
@@ -201,32 +175,23 @@ impl<P: Pager> Cache<P> {
         ensures after { self.new ≡ record self.old { held = changed (dirtied at bytes.now) self.old.held page } }
         ensures sound { IsSound self.old }
     {
-        if let Some(place) = self.place(page) {
-            self.held[place].put(at, bytes);
-        }
+        self.store.put(page, at, bytes, true);
     }
 
-    // Writes to a resident page at this place of the list. The new page is made in the spare buffer.
-    fn write_resident(
-        &mut self,
-        page: u64,
-        place: usize,
-        at: u32,
-        bytes: &[u8],
-    ) -> Result<(), PagerFault>
+    // Writes bytes over a part of a page that is resident or in the spare buffer.
+    fn write_part(&mut self, page: u64, at: u32, bytes: &[u8]) -> Result<(), PagerFault>
         requires inside { page < self.old.pager.pages }
-        requires there { IsAt self.old.held page place }
+        requires at_hand { IsSome (at_hand self.old page) }
         requires fits { at + length bytes.now ≤ self.old.pager.page_size }
-        ensures writes { IfSome (resident_page self.old page) (λ held. WritesThrough self.old page (written_over held.bytes at bytes.now) (is_err result) self.new) }
+        ensures writes { IfSome (at_hand self.old page) (λ held. WritesThrough self.old page (written_over held.bytes at bytes.now) (is_err result) self.new) }
         ensures fault { IfErr result (λ fault. fault.page ≡ page) }
     {
         self.has_spare = false;
-        self.spare.copy(page, self.held[place].bytes());
-        self.spare.put(at, bytes);
-        if self.spare.write(&mut self.pager).is_err() {
+        let whole = self.store.seat(page);
+        if send(&mut self.pager, &mut self.buffer, page, whole, at, bytes).is_err() {
             return Err(PagerFault { page });
         }
-        self.held[place].copy(page, self.spare.bytes());
+        self.store.put(page, at, bytes, false);
         Ok(())
     }
 
@@ -245,23 +210,6 @@ impl<P: Pager> Cache<P> {
         Ok(())
     }
 
-    // Writes to the page in the spare buffer, which is not resident.
-    fn write_spare(&mut self, page: u64, at: u32, bytes: &[u8]) -> Result<(), PagerFault>
-        requires inside { page < self.old.pager.pages }
-        requires there { IsSome (in_spare self.old page) }
-        requires absent { resident_page self.old page ≡ None }
-        requires fits { at + length bytes.now ≤ self.old.pager.page_size }
-        ensures writes { IfSome self.old.spare (λ held. WritesThrough self.old page (written_over held.bytes at bytes.now) (is_err result) self.new) }
-        ensures fault { IfErr result (λ fault. fault.page ≡ page) }
-    {
-        self.has_spare = false;
-        self.spare.put(at, bytes);
-        if self.spare.write(&mut self.pager).is_err() {
-            return Err(PagerFault { page });
-        }
-        Ok(())
-    }
-
     // Writes bytes over a part of a page, through to the pager.
     pub(super) fn write_through(
         &mut self,
@@ -275,55 +223,34 @@ impl<P: Pager> Cache<P> {
         ensures fault { IfErr result (λ fault. fault.page ≡ page) }
         ensures sound { IsSound self.old }
     {
-        if let Some(place) = self.place(page) {
-            return self.write_resident(page, place, at, bytes);
+        if self.is_resident(page) {
+            return self.write_part(page, at, bytes);
         }
         if bytes.len() == self.page_size() as usize {
             return self.write_whole(page, bytes);
         }
         self.read_spare(page)?;
-        self.write_spare(page, at, bytes)
+        self.write_part(page, at, bytes)
     }
 }
 
-// Where a page stands in a list.
-fn position_of(held: &[Page], page: u64) -> Option<usize>
-    ensures { result ≡ position (λ held. held.page == page) held.now }
+// Writes a page whole to the pager, with bytes over a part of it. The page is made in the buffer.
+fn send<P: Pager>(
+    pager: &mut P,
+    buffer: &mut PageBuffer,
+    page: u64,
+    whole: &[u8],
+    at: u32,
+    bytes: &[u8],
+) -> Result<(), Failed>
+    requires inside { page < (P.shows pager.old).pages }
+    requires size { length buffer.old ≡ (P.shows pager.old).page_size }
+    requires whole { length whole.now ≡ length buffer.old }
+    requires fits { at + length bytes.now ≤ length buffer.old }
+    ensures write { IsWrite (P.shows pager.old) page (is_err result) (written_over whole.now at bytes.now) (P.shows pager.new) }
+    ensures buffer { length buffer.new ≡ length buffer.old }
 {
-    held.iter().position(|held| held.number() == page)
-}
-
-// So many buffers of zeros, each of one page.
-pub(super) fn buffers(alloc: Global, count: usize, page_size: u32) -> Result<Vec<Page>, NoMemory>
-    ensures count { IfOk result (λ buffers. vec_len buffers ≡ count) }
-    ensures room { IfOk result (λ buffers. count ≤ vec_capacity buffers) }
-    ensures whole { IfOk result (λ buffers. All (IsWhole page_size) buffers.items) }
-{
-    let mut buffers = Vec::with_capacity(alloc, count)?;
-    for _ in 0..count {
-        buffers.push(Page::new(alloc, page_size)?)?;
-    }
-    Ok(buffers)
-}
-
-// The next spare buffer, a free one or else that of the last page, and the number of the page that left for it.
-fn next_buffer(free: &mut Vec<Page>, held: &mut Vec<Page>) -> (Page, Option<u64>)
-    requires { 0 < vec_len free.old + vec_len held.old }
-    ensures free { 0 < vec_len free.old → (vec_len free.new + 1 ≡ vec_len free.old) × (held.new.items ≡ held.old.items) × (result.1 ≡ None) }
-    ensures last { vec_len free.old ≡ 0 → (vec_len free.new ≡ 0) × (held.new.items ≡ take (vec_len held.old - 1) held.old.items)
-        × (result.1 ≡ option_map (λ held. held.page) (slice_get held.old.items (vec_len held.old - 1))) }
-    ensures free_capacity { vec_capacity free.new ≡ vec_capacity free.old }
-    ensures held_capacity { vec_capacity held.new ≡ vec_capacity held.old }
-    ensures whole { (size : ℕ) → All (IsWhole size) free.old.items → All (IsWhole size) held.old.items → All (IsWhole size) free.new.items × IsWhole size result.0 }
-{
-    if let Some(buffer) = free.pop() {
-        return (buffer, None);
-    }
-    match held.pop() {
-        Some(last) => {
-            let number = last.number();
-            (last, Some(number))
-        }
-        None => unreachable!(),
-    }
+    buffer.fill(whole);
+    buffer.put(at, bytes);
+    pager.write_page(page, buffer.bytes())
 }

@@ -186,17 +186,34 @@ impl Plain {
 
 // The resident pages of a cache are those of the model.
 fn same_list<R: Abort, P: Pager>(rt: &R, cache: &Cache<P>, plain: &Plain, after: Call, fails: u64) {
+    for page in 0..3 {
+        let place = plain.place(page);
+        assert_eq!(rt;
+            cache.is_resident(page),
+            place.is_some(),
+            "after {after:?}, {fails} fails"
+        );
+        if let Some(place) = place {
+            let (_, byte, dirty) = plain.held[place];
+            let first = cache.store.seat(page).first().map(|byte| u64::from(*byte));
+            assert_eq!(rt; first, Some(byte), "after {after:?}, {fails} fails");
+            assert_eq!(rt;
+                cache.store.is_dirty(page),
+                dirty,
+                "after {after:?}, {fails} fails"
+            );
+        }
+    }
+    let last = if plain.held.len() == plain.limit {
+        plain.held.last().map(|held| held.0)
+    } else {
+        None
+    };
     assert_eq!(rt;
-        cache.held.len(),
-        plain.held.len(),
+        cache.store.victim(),
+        last,
         "after {after:?}, {fails} fails"
     );
-    for (held, (page, byte, dirty)) in cache.held.iter().zip(plain.held.iter()) {
-        assert_eq!(rt; held.number(), *page, "after {after:?}, {fails} fails");
-        assert_eq!(rt; held.is_dirty(), *dirty, "after {after:?}, {fails} fails");
-        let first = held.bytes().first().map(|byte| u64::from(*byte));
-        assert_eq!(rt; first, Some(*byte), "after {after:?}, {fails} fails");
-    }
 }
 
 const SCRIPT: [Call; 18] = [
