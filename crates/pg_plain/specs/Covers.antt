@@ -7,21 +7,18 @@
 use Rattle.std.specs.Prelude.{◌<◌, ◌%◌, ◌≡◌, ℕ, ◌+◌, ◌-◌, ◌*◌, ◌/◌, ◌&&◌, nat_le, nat_lt, max, min, IsTrue, Bool, List, map, find, Option}
 use Rattle.std.specs.List.{range_with_len, between, All}
 use Rattle.pg_digest.specs.Kinds.{Hash}
+use Rattle.pg_io.specs.MemPages.{pages_reached}
 use Rattle.cs_directory.specs.HashPages.{bytes_of}
 use Rattle.cs_directory.specs.Directory.{slot_at}
 use Rattle.cs_blob.specs.Signature.{Signature}
 use Rattle.pg_plain.specs.PlainFile.{Attached, PlainFile}
-
--- how many pages of a size so many bytes reach
-abbrev pub pages_of : ℕ → ℕ → ℕ
-pages_of size bytes = (bytes + (size - 1)) / size
 
 -- the first page that a signature covers, and the first behind those that it covers
 abbrev pub first_covered : ℕ → Signature → ℕ
 first_covered size blob = blob.slice.at / size
 
 abbrev pub end_covered : ℕ → Signature → ℕ
-end_covered size blob = first_covered size blob + pages_of size blob.best.limit
+end_covered size blob = first_covered size blob + pages_reached size blob.best.limit
 
 abbrev pub covers : ℕ → Signature → ℕ → Bool
 covers size blob page = nat_le (first_covered size blob) page && nat_lt page (end_covered size blob)
