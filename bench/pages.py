@@ -1,15 +1,16 @@
 #!/usr/bin/env python3
-"""Times a bring and a put of a resident page, with 16 and with 4,096 resident pages, beside one SHA-256 of a page.
+"""Times a bring, a check and a put of a resident page, with 16 and with 4,096 resident pages, beside a SHA-256 of a page.
 
 Run at the top of the repository after the gate, which leaves the program built: `bench/pages.py [ROUNDS]`, where ROUNDS
-is how often the program is run (15). Each round of `pages_bench` makes 100,000 brings and as many puts of one byte three
-times: over 16 pages where only these are resident; over 16 pages where 4,096 are resident; and over all 4,096. The first
-two touch the same memory, so their ratio is what the number of resident pages costs. The third touches 4,096 pages of
-memory in turn, so it pays for the processor's caches too. In the same process one page of 4,096 bytes is hashed 1,000
-times. Times a step are from the best round; each ratio is of the best rounds, and how many steps one hash costs.
+is how often the program is run (15). Each round of `pages_bench` makes 100,000 brings, as many checks of validated pages
+and as many puts of one byte three times: over 16 pages where only these are resident; over 16 pages where 4,096 are
+resident; and over all 4,096. The first two touch the same memory, so their ratio is what the number of resident pages
+costs. The third touches 4,096 pages of memory in turn, so it pays for the processor's caches too. In the same process
+one page of 4,096 bytes is hashed 1,000 times. Times a step are from the best round; each ratio is of the best rounds,
+and how many steps one hash costs.
 
-Opening the cache, which takes all memory, and the first read of each page are not timed. A put asks first whether its
-page is resident, and that is part of its time.
+Opening the pages, which takes all memory, the first read and the first check of each page are not timed. A put asks
+first whether its page is resident, and that is part of its time.
 """
 import os
 import re
@@ -18,7 +19,7 @@ import sys
 from pathlib import Path
 
 ROUNDS = 15
-STEPS = re.compile(r"^(\d+) (brings|puts) on (\d+) of (\d+) took (\d+) ns$", re.MULTILINE)
+STEPS = re.compile(r"^(\d+) (brings|checks|puts) on (\d+) of (\d+) took (\d+) ns$", re.MULTILINE)
 HASHES = re.compile(r"^(\d+) hashes took (\d+) ns$", re.MULTILINE)
 
 Step = tuple[str, int, int]

@@ -20,31 +20,36 @@ mod run;
 
 use ending::{book_bench_main, given_up};
 use fail::BenchFail;
+use pg_bytes::arguments;
 use std::alloc::AllocError;
 use std::env;
 use std::io::ErrorKind;
 use std::process::ExitCode;
 use std::rt::Env;
 
-/// The words of the command line without the program's name; one empty word where one of them is no text. Want of
-/// memory is the only error.
+/// The words of the command line, of which the first names the program; two empty words where one of them is no text.
+/// Want of memory is the only error.
 fn command_line(rt: &(impl Env + AllocGlobal)) -> Result<Vec<String>, AllocError> {
     let mut words = Vec::new(rt.alloc());
     match env::args(rt) {
         Ok(args) => {
-            for word in args.skip(1) {
+            for word in args {
                 words.push(word)?;
             }
         }
         Err(e) if e.kind() == ErrorKind::OutOfMemory => return Err(AllocError),
-        Err(_) => words.push(String::new(rt.alloc()))?,
+        Err(_) => {
+            for _ in 0..2 {
+                words.push(String::new(rt.alloc()))?;
+            }
+        }
     }
     Ok(words)
 }
 
 fn main(rt: HostRuntime) -> ExitCode {
     let status = match command_line(&rt) {
-        Ok(words) => book_bench_main(&rt, rt.alloc(), &words),
+        Ok(words) => book_bench_main(&rt, rt.alloc(), arguments(&words)),
         Err(AllocError) => given_up(&rt, BenchFail::NoMemory),
     };
     ExitCode::from(status)

@@ -19,7 +19,7 @@ mod scene;
 mod top;
 mod words;
 
-use pg_bytes::{Status, code};
+use pg_bytes::{Status, arguments, code};
 use pg_io::{DiskFiles, StdoutSink};
 use std::alloc::AllocError;
 use std::env;
@@ -28,13 +28,13 @@ use std::process::ExitCode;
 use std::rt::Env;
 pub use top::csrun_main;
 
-/// The words of the command line without the program's name; none where one of them is no text. Want of memory is
-/// the only error.
+/// The words of the command line, of which the first names the program; none where one of them is no text. Want of
+/// memory is the only error.
 fn command_line(rt: &(impl Env + AllocGlobal)) -> Result<Vec<String>, AllocError> {
     let mut words = Vec::new(rt.alloc());
     match env::args(rt) {
         Ok(args) => {
-            for word in args.skip(1) {
+            for word in args {
                 words.push(word)?;
             }
         }
@@ -50,7 +50,7 @@ fn main(rt: HostRuntime) -> ExitCode {
     };
     let mut files = DiskFiles::new(&rt);
     let mut out = StdoutSink::new(&rt);
-    let status = csrun_main(rt.alloc(), &words, &mut files, &mut out);
+    let status = csrun_main(rt.alloc(), arguments(&words), &mut files, &mut out);
     ExitCode::from(code(&status))
 }
 

@@ -1,6 +1,6 @@
 -- How the run of a file ends, by what was read of it.
-use Rattle.std.proofs.Common.{◌≡◌, ℕ, ◌<◌, ◌≤◌, Bool, true, false, List, length, take, Option, Some, None, Result, Ok, Err, refl, ap, sym, ◌∙◌, arith, inl, inr}
-use Rattle.std.specs.Prelude.{OnOk, OnErr, if◌then◌else◌, option_and_then}
+use Rattle.std.proofs.Common.{◌≡◌, ℕ, ◌<◌, ◌≤◌, Bool, true, false, List, length, take, Option, Some, None, refl, ap, sym, ◌∙◌, arith, inl, inr}
+use Rattle.std.specs.Prelude.{if◌then◌else◌, option_and_then}
 use Rattle.std.specs.Io.KnownBytes.{append_known}
 use Rattle.std.proofs.lemmas.Bool.{cases_lt, lt-ltb, le-ltb}
 use Rattle.std.proofs.lemmas.List.{take_all, length-take}
@@ -14,16 +14,7 @@ use Rattle.cs_verify.specs.declared.report.SliceReport.{SliceReport}
 use Rattle.pg_digest.specs.Kinds.{Hash}
 use Rattle.cs_verify.specs.Report.{IsReport, report, all_match}
 use Rattle.csverify.specs.Words.{path_of}
-use Rattle.csverify.specs.Ending.{Ending, most, refused, reported, too_large, judged, verified, of_file, of_path, ending_of, file_of, Ends, IsSealed, IsNotSealed, IsVerdictOf, IsVerdict, IsCaused, IsWorded}
-
-pub OnOk-from : {T E P : Type 0} (r : Result T E) → P → OnOk r P
-OnOk-from (Ok x) h = h
-OnOk-from (Err e) h = tt
-
--- a fact that holds is one where there is an error
-pub OnErr-from : {T E P : Type 0} (r : Result T E) → P → OnErr r P
-OnErr-from (Ok x) h = tt
-OnErr-from (Err e) h = h
+use Rattle.csverify.specs.Ending.{Ending, most, refused, reported, too_large, judged, verified, of_file, of_path, ending_of, file_of, Ends, IsSealed, IsNotSealed, IsVerdictOf, IsCaused}
 
 -- a file that has a report
 pub verified_report : (hash : Hash) (bytes : List ℕ) (found : List SliceReport) → IsReport hash bytes found → reported found ≡ verified hash bytes
@@ -55,17 +46,25 @@ pub file_read : (hash : Hash) (found : Option (List ℕ)) (bytes : List ℕ) (e 
 file_read hash found bytes e gives is =
     is ∙ ap (λ (xs : List ℕ). of_file hash (Some xs)) gives.given_first ∙ first_bytes hash gives.whole ∙ ap (of_file hash) (sym gives.found_whole)
 
--- a verdict has no line of its own
-pub verdict_worded : (s : Status) (text : List ℕ) → IsVerdict s → IsWorded s text
-verdict_worded status.Done text is = tt
-verdict_worded status.NotSealed text is = tt
-verdict_worded status.Usage text is = absurd is
-verdict_worded (status.SceneBad line kind) text is = tt
-verdict_worded (status.FileFault item) text is = absurd is
-verdict_worded status.SinkFault text is = tt
-verdict_worded (status.Limit which number) text is = absurd is
-verdict_worded (status.TrustBad item number arg) text is = tt
-verdict_worded status.NoMemory text is = tt
+-- either verdict comes by words that are not refused
+verdict_caused : (b : Bool) (before now : ℕ) (text : List ℕ) → IsCaused false before now (if b then status.Done else status.NotSealed) text
+verdict_caused true before now text = refl
+verdict_caused false before now text = refl
+
+judged_caused : (hash : Hash) (bytes : List ℕ) (rule : Option FatRefusal) (before now : ℕ) → IsCaused false before now (judged hash bytes rule).status (judged hash bytes rule).text
+judged_caused hash bytes (Some refusal) before now = refl
+judged_caused hash bytes None before now = verdict_caused (all_match (report hash bytes)) before now (reported (report hash bytes)).text
+
+-- equal endings have the same cause
+caused_as : (refused : Bool) (before now : ℕ) (e f : Ending) → e ≡ f → IsCaused refused before now f.status f.text → IsCaused refused before now e.status e.text
+caused_as refused before now e f is cause = rw is cause
+
+-- a file that was read ends the run by words that are not refused
+pub read_caused : (hash : Hash) (bytes : List ℕ) (before now : ℕ) (e : Ending) → e ≡ of_file hash (Some bytes) → IsCaused false before now e.status e.text
+read_caused hash bytes before now e is = elim (cases_lt most (length bytes)) [
+  | inl long ↦ caused_as false before now e too_large (is ∙ large hash bytes long) (refl, refl, refl, refl)
+  | inr short ↦ caused_as false before now e (judged hash bytes (fat.broken bytes)) (is ∙ small hash bytes short) (judged_caused hash bytes (fat.broken bytes) before now)
+]
 
 -- which of the two verdicts was chosen tells whether all matched
 all_matched : (b : Bool) → status.Done ≡ (if b then status.Done else status.NotSealed) → b ≡ true
@@ -142,19 +141,19 @@ ends_verdict hash words told (status.TrustBad item number arg) before now ends =
 ends_verdict hash words told status.NoMemory before now ends = tt
 
 -- a status that comes before the first write, and the whole text that went out
-ends_by : (path : Option (List ℕ)) (old new : ℕ) (s : Status) (f : Ending) (before now : Option (List ℕ)) → IsCaused path old new s → s ≡ f.status → now ≡ append_known before f.text → Ends f s before now
-ends_by path old new status.Done f before now cause is sent = (is, sent)
-ends_by path old new status.NotSealed f before now cause is sent = (is, sent)
-ends_by path old new status.Usage f before now cause is sent = (is, sent)
-ends_by path old new (status.SceneBad line kind) f before now cause is sent = absurd cause
-ends_by path old new (status.FileFault item) f before now cause is sent = (is, sent)
-ends_by path old new status.SinkFault f before now cause is sent = absurd cause
-ends_by path old new (status.Limit which number) f before now cause is sent = (is, sent)
-ends_by path old new (status.TrustBad item number arg) f before now cause is sent = absurd cause
-ends_by path old new status.NoMemory f before now cause is sent = absurd cause
+ends_by : (refused : Bool) (old new : ℕ) (s : Status) (text : List ℕ) (f : Ending) (before now : Option (List ℕ)) → IsCaused refused old new s text → s ≡ f.status → now ≡ append_known before f.text → Ends f s before now
+ends_by refused old new status.Done text f before now cause is sent = (is, sent)
+ends_by refused old new status.NotSealed text f before now cause is sent = (is, sent)
+ends_by refused old new status.Usage text f before now cause is sent = (is, sent)
+ends_by refused old new (status.SceneBad line kind) text f before now cause is sent = absurd cause
+ends_by refused old new (status.FileFault item) text f before now cause is sent = (is, sent)
+ends_by refused old new status.SinkFault text f before now cause is sent = absurd cause
+ends_by refused old new (status.Limit which number) text f before now cause is sent = (is, sent)
+ends_by refused old new (status.TrustBad item number arg) text f before now cause is sent = absurd cause
+ends_by refused old new status.NoMemory text f before now cause is sent = absurd cause
 
 -- a run that wrote its whole text ends as its ending says
-pub whole_ends : (path : Option (List ℕ)) (old new : ℕ) (e f : Ending) (before now : Option (List ℕ)) → IsCaused path old new e.status → e ≡ f → now ≡ append_known before e.text → Ends f e.status before now
-whole_ends path old new e f before now cause same sent =
-    ends_by path old new e.status f before now cause (ap (λ (x : Ending). x.status) same)
+pub whole_ends : (refused : Bool) (old new : ℕ) (e f : Ending) (before now : Option (List ℕ)) → IsCaused refused old new e.status e.text → e ≡ f → now ≡ append_known before e.text → Ends f e.status before now
+whole_ends refused old new e f before now cause same sent =
+    ends_by refused old new e.status e.text f before now cause (ap (λ (x : Ending). x.status) same)
     (sent ∙ ap (λ (x : Ending). append_known before x.text) same)

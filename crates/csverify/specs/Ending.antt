@@ -1,5 +1,7 @@
 -- How a run ends: its status, and the text that it writes.
-use Rattle.std.specs.Prelude.{◌≡◌, ◌⊎◌, ◌≤◌, ℕ, true, IsTrue, IsFalse, List, ◌++◌, length, codes, Option, Some, None, IsSome, is_some, option_and_then, nat_lt, if◌then◌else◌}
+use Rattle.std.specs.Prelude.{◌≡◌, ◌≢◌, ◌⊎◌, ◌≤◌, ℕ, Bool, true, false, IsTrue, IsFalse, List, ◌++◌, length, codes, Option, Some, None, IsSome, option_map, option_and_then, Result, nat_lt, if◌then◌else◌}
+use Rattle.std.specs.Borrow.{Bor}
+use Rattle.std.specs.Result.{result_ok}
 use Rattle.std.specs.Io.KnownBytes.{append_known}
 use Rattle.pg_bytes.specs.Counts.{Rose}
 use Rattle.pg_bytes.specs.declared.Status.{Status}
@@ -16,6 +18,7 @@ use Rattle.cs_verify.specs.declared.report.SliceReport.{SliceReport}
 use Rattle.pg_digest.specs.Kinds.{Hash}
 use Rattle.cs_verify.specs.Report.{report, all_match}
 use Rattle.cs_verify.specs.Text.{verify_text}
+use Rattle.clap.specs.declared.error.Error.{Error}
 use Rattle.csverify.specs.Words.{path_of}
 
 -- a status, and the whole text that goes with it
@@ -116,38 +119,28 @@ Ends ending status.NoMemory before now = now ≡ before
 Ends ending status.SinkFault before now = SentPart before now ending.text
 Ends ending other before now = (other ≡ ending.status) × (now ≡ append_known before ending.text)
 
--- the status of a file within the limit
-abbrev pub IsVerdict : Status → Type 0
-IsVerdict status.Done = Unit {0}
-IsVerdict status.NotSealed = Unit {0}
-IsVerdict other = ⊥
+-- Words in which the command finds a fault end the run by the usage line, and no others do. A fault of the sink or
+-- want of memory may come in its place.
+abbrev pub EndsByWords : Bool → Status → Option (List ℕ) → Option (List ℕ) → Type 0
+EndsByWords true s before now = Ends usage s before now
+EndsByWords false s before now = s ≢ status.Usage
 
--- the status of a file that was read
-abbrev pub IsJudged : Status → Type 0
-IsJudged status.Done = Unit {0}
-IsJudged status.NotSealed = Unit {0}
-IsJudged (status.Limit which number) = (which ≡ FileBytes) × (number ≡ most)
-IsJudged other = ⊥
+-- the path that the command line gave
+abbrev pub named : Result (Bor (List ℕ)) Error → Option (List ℕ)
+named path = option_map (λ p. p.now) (result_ok path)
 
--- What each status before the first write comes by: the path that the words name, and the count of the files'
--- faults before and now. The others do not come.
-abbrev pub IsCaused : Option (List ℕ) → ℕ → ℕ → Status → Type 0
-IsCaused path before now status.Done = is_some path ≡ true
-IsCaused path before now status.NotSealed = is_some path ≡ true
-IsCaused path before now status.Usage = path ≡ None
-IsCaused path before now (status.FileFault item) = (is_some path ≡ true) × (item ≡ 0) × Rose before now
-IsCaused path before now (status.Limit which number) = (is_some path ≡ true) × (which ≡ FileBytes) × (number ≡ most)
-IsCaused path before now (status.SceneBad line kind) = ⊥
-IsCaused path before now status.SinkFault = ⊥
-IsCaused path before now (status.TrustBad item number arg) = ⊥
-IsCaused path before now status.NoMemory = ⊥
-
--- the text that goes with the status of an early end, whatever the files hold
-abbrev pub IsWorded : Status → List ℕ → Type 0
-IsWorded status.Usage text = text ≡ usage.text
-IsWorded (status.FileFault item) text = text ≡ unread.text
-IsWorded (status.Limit which number) text = text ≡ too_large.text
-IsWorded other text = Unit {0}
+-- What each status before the first write comes by, and its line: whether the words were refused, and the count of
+-- the files' faults before and now. The others do not come.
+abbrev pub IsCaused : Bool → ℕ → ℕ → Status → List ℕ → Type 0
+IsCaused refused before now status.Done text = refused ≡ false
+IsCaused refused before now status.NotSealed text = refused ≡ false
+IsCaused refused before now status.Usage text = (refused ≡ true) × (text ≡ usage.text)
+IsCaused refused before now (status.FileFault item) text = (refused ≡ false) × (item ≡ 0) × (text ≡ unread.text) × Rose before now
+IsCaused refused before now (status.Limit which number) text = (refused ≡ false) × (which ≡ FileBytes) × (number ≡ most) × (text ≡ too_large.text)
+IsCaused refused before now (status.SceneBad line kind) text = ⊥
+IsCaused refused before now status.SinkFault text = ⊥
+IsCaused refused before now (status.TrustBad item number arg) text = ⊥
+IsCaused refused before now status.NoMemory text = ⊥
 
 -- where a run ends early, its one line went out
 abbrev pub Says : Status → Option (List ℕ) → Option (List ℕ) → Type 0

@@ -1,7 +1,9 @@
--- What the program's plain text stands for: how a run ends.
-use Rattle.csverify.specs.declared.ending.Plain.{Plain}
-use Rattle.csverify.specs.Ending.{Ending}
+-- What the program's ending stands for.
+use Rattle.std.specs.Prelude.{ℕ, List}
+use Rattle.csverify.specs.declared.ending.Text.{Text}
+use Rattle.csverify.specs.declared.ending.Text.TheVariants.{Line, Made}
 
--- the status and its text
-abbrev pub ending_in : Plain → Ending
-ending_in p = record { status = p.status; text = p.text.items }
+-- the bytes of the text
+abbrev pub text_in : Text → List ℕ
+text_in (Line line) = line.now
+text_in (Made bytes) = bytes.items

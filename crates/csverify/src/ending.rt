@@ -1,95 +1,131 @@
 //! How a run ends: everything that it does before it writes.
 
-ghost use Rattle.std.specs.Prelude.{◌≡◌, ◌≢◌, ◌≤◌, ◌<◌, ℕ, map, length, Some, None, IfOk, OnOk, OnErr, IsTrue, string_bytes};
+ghost use Rattle.std.specs.Prelude.{◌≡◌, ◌≢◌, ◌≤◌, ◌<◌, ℕ, false, is_err, length, Some, None, IfOk, IfErr, OnOk, OnErr, IsOkAnd, IsErr};
 ghost use Rattle.pg_bytes.specs.Counts.{Rose};
 ghost use Rattle.pg_digest.specs.Digests.{sha_hash};
 ghost use Rattle.pg_io.specs.Files.{Told, next_read, after_read};
-ghost use Rattle.csverify.specs.Words.{path_of, is_refused};
+ghost use Rattle.csverify.specs.Words.{IsShort};
 ghost use Rattle.csverify.specs.Ending as endings;
-ghost use Rattle.csverify.specs.Ending.{verified, of_file, reported, ending_of, told_after, TellsEither, IsVerdict, IsJudged, IsCaused, IsWorded};
-ghost use Rattle.csverify.specs.EndingView.{ending_in};
+ghost use Rattle.csverify.specs.Ending.{verified, of_file, of_path, named, reported, told_beside, TellsEither, IsCaused};
 
-use crate::words::{WordsFail, path_of};
+use clap::Error;
+use clap::error::ErrorKind;
 use cs_policy::Refusal;
 use cs_verify::{SliceReport, VerifyFail, all_match, verify, verify_text};
 use pg_bytes::{Status, Which};
 use pg_digest::ShaDigester;
 use pg_io::{Files, ReadFail};
 use std::alloc::{AllocError, Global};
+use std::marker::Model;
 
 /// The most bytes that a file may have.
 const MOST: u64 = 67_108_864;
 
+/// The text of an ending.
+#[derive(Drop)]
+enum Text {
+    /// A fixed line, which takes no memory.
+    Line(&'static str),
+    /// What was made for a file.
+    Made(Vec<u8>),
+}
+
 /// A status, and the whole text that goes with it.
 #[derive(Drop)]
-pub struct Plain {
-    pub status: Status,
-    pub text: Vec<u8>,
+pub struct Ending {
+    status: Status,
+    text: Text,
+}
+
+impl Model for Ending {
+    ghost use Rattle.csverify.specs.Ending.{Ending};
+    ghost use Rattle.csverify.specs.EndingView.{text_in};
+
+    ghost Value = { Ending };
+
+    ghost view = { λ e. record { status = e.status; text = text_in e.text } };
+}
+
+impl Ending {
+    /// The status.
+    pub fn status(&self) -> Status
+        ensures { result ≡ self.now.status }
+    {
+        self.status
+    }
+
+    /// The bytes of the text.
+    pub fn text(&self) -> &[u8]
+        ensures { result.now ≡ self.now.text }
+    {
+        match &self.text {
+            Text::Line(line) => line.as_bytes(),
+            Text::Made(bytes) => bytes,
+        }
+    }
 }
 
 /// The command line is not that of this program.
-fn usage(alloc: Global) -> Result<Plain, AllocError>
-    ensures { IfOk result (λ p. ending_in p ≡ endings.usage) }
+fn usage() -> Ending
+    ensures { result ≡ endings.usage }
 {
-    Ok(Plain {
+    Ending {
         status: Status::Usage,
-        text: String::from_str(alloc, "usage: csverify PATH\n")?.into_bytes(),
-    })
+        text: Text::Line("usage: csverify PATH\n"),
+    }
 }
 
 /// The file could not be read.
-fn unread(alloc: Global) -> Result<Plain, AllocError>
-    ensures { IfOk result (λ p. ending_in p ≡ endings.unread) }
+fn unread() -> Ending
+    ensures { result ≡ endings.unread }
 {
-    Ok(Plain {
+    Ending {
         status: Status::FileFault { item: 0 },
-        text: String::from_str(alloc, "csverify: cannot read\n")?.into_bytes(),
-    })
+        text: Text::Line("csverify: cannot read\n"),
+    }
 }
 
 /// The file has more bytes than it may have.
-fn too_large(alloc: Global) -> Result<Plain, AllocError>
-    ensures { IfOk result (λ p. ending_in p ≡ endings.too_large) }
+fn too_large() -> Ending
+    ensures { result ≡ endings.too_large }
 {
-    Ok(Plain {
+    Ending {
         status: Status::Limit {
             which: Which::FileBytes,
             number: MOST,
         },
-        text: String::from_str(alloc, "csverify: limit filebytes 67108864\n")?.into_bytes(),
-    })
+        text: Text::Line("csverify: limit filebytes 67108864\n"),
+    }
 }
 
 /// The file breaks the grammar of fat files.
-fn refused(alloc: Global, refusal: Refusal) -> Result<Plain, AllocError>
-    ensures { IfOk result (λ p. ending_in p ≡ endings.refused refusal) }
+fn refused(alloc: Global, refusal: Refusal) -> Result<Ending, AllocError>
+    ensures { IfOk result (λ e. e ≡ endings.refused refusal) }
 {
-    Ok(Plain {
+    Ok(Ending {
         status: Status::NotSealed,
-        text: format!(in alloc; "file refused {refusal}\n")?.into_bytes(),
+        text: Text::Made(format!(in alloc; "file refused {refusal}\n")?.into_bytes()),
     })
 }
 
 /// The file has a report.
-fn reported(alloc: Global, reports: &[SliceReport]) -> Result<Plain, AllocError>
-    ensures text { IfOk result (λ p. ending_in p ≡ reported reports.now) }
-    ensures verdict { IfOk result (λ p. IsVerdict p.status) }
+fn reported(alloc: Global, reports: &[SliceReport]) -> Result<Ending, AllocError>
+    ensures { IfOk result (λ e. e ≡ reported reports.now) }
 {
     let status = if all_match(reports) {
         Status::Done
     } else {
         Status::NotSealed
     };
-    Ok(Plain {
+    Ok(Ending {
         status,
-        text: verify_text(alloc, reports)?,
+        text: Text::Made(verify_text(alloc, reports)?),
     })
 }
 
 /// The run over a file's bytes.
-fn verified(alloc: Global, bytes: &[u8]) -> Result<Plain, AllocError>
-    ensures file { IfOk result (λ p. ending_in p ≡ verified sha_hash bytes.now) }
-    ensures verdict { IfOk result (λ p. IsVerdict p.status) }
+fn verified(alloc: Global, bytes: &[u8]) -> Result<Ending, AllocError>
+    ensures { IfOk result (λ e. e ≡ verified sha_hash bytes.now) }
 {
     let mut digester = ShaDigester::new();
     match verify(alloc, bytes, &mut digester) {
@@ -100,58 +136,71 @@ fn verified(alloc: Global, bytes: &[u8]) -> Result<Plain, AllocError>
 }
 
 /// The run over the first bytes of a file, of which there are at most one more than it may have.
-fn after_file(alloc: Global, bytes: &[u8]) -> Result<Plain, AllocError>
-    ensures file { IfOk result (λ p. ending_in p ≡ of_file sha_hash (Some bytes.now)) }
-    ensures judged { IfOk result (λ p. IsJudged p.status) }
-    ensures worded { IfOk result (λ p. IsWorded p.status p.text.items) }
+fn after_file(alloc: Global, bytes: &[u8]) -> Result<Ending, AllocError>
+    ensures { IfOk result (λ e. e ≡ of_file sha_hash (Some bytes.now)) }
 {
     if bytes.len() as u64 > MOST {
-        return too_large(alloc);
+        return Ok(too_large());
     }
     verified(alloc, bytes)
 }
 
 /// The run over the file of this path.
-fn after_path<F: Files>(alloc: Global, files: &mut F, path: &str) -> Result<Plain, AllocError>
+fn after_path<F: Files>(alloc: Global, files: &mut F, path: &str) -> Result<Ending, AllocError>
     ensures told { (told : Told) → F.tells files.old ≡ Some told →
-        IfOk result (λ p. ending_in p ≡ of_file sha_hash (next_read told path.now)) }
+        IfOk result (λ e. e ≡ of_file sha_hash (next_read told path.now)) }
     ensures read { (told : Told) → F.tells files.old ≡ Some told →
         OnOk result (F.tells files.new ≡ Some (after_read told)) }
     ensures read_short { (told : Told) → F.tells files.old ≡ Some told →
         OnErr result (TellsEither told (after_read told) (F.tells files.new)) }
-    ensures cause { IfOk result (λ p.
-        IsCaused (Some path.now) (F.faults files.old) (F.faults files.new) p.status) }
-    ensures worded { IfOk result (λ p. IsWorded p.status p.text.items) }
+    ensures cause { IfOk result (λ e.
+        IsCaused false (F.faults files.old) (F.faults files.new) e.status e.text) }
+    ensures no_fault { OnErr result (F.faults files.new ≡ F.faults files.old) }
 {
     match files.read(alloc, path, MOST + 1) {
         Err(ReadFail::NoMemory) => Err(AllocError),
-        Err(ReadFail::Failed) => unread(alloc),
+        Err(ReadFail::Failed) => Ok(unread()),
         Ok(bytes) => after_file(alloc, &bytes),
     }
 }
 
-/// How the run of these words ends.
-pub fn ending<F: Files>(alloc: Global, words: &[String], files: &mut F) -> Result<Plain, AllocError>
-    ensures told { (told : Told) → F.tells files.old ≡ Some told →
-        IfOk result (λ p. ending_in p ≡ ending_of sha_hash (map string_bytes words.now) told) }
-    ensures read { (told : Told) → F.tells files.old ≡ Some told →
-        OnOk result (F.tells files.new ≡ Some (told_after (map string_bytes words.now) told)) }
-    ensures read_short { (told : Told) → F.tells files.old ≡ Some told →
-        OnErr result
-        (TellsEither told (told_after (map string_bytes words.now) told) (F.tells files.new)) }
-    ensures usage { IfOk result (λ p.
-        p.status ≡ Status.Usage → IsTrue (is_refused (map string_bytes words.now))) }
-    ensures other_words { path_of (map string_bytes words.now) ≡ None →
-        IfOk result (λ p. ending_in p ≡ endings.usage) }
-    ensures quiet { path_of (map string_bytes words.now) ≡ None → files.new ≡ files.old }
-    ensures cause { IfOk result (λ p.
-        IsCaused (path_of (map string_bytes words.now))
-        (F.faults files.old) (F.faults files.new) p.status) }
-    ensures worded { IfOk result (λ p. IsWorded p.status p.text.items) }
+/// The run of words for which the command line gave this error. Want of memory in it is the only reason to give up.
+fn after_error(error: &Error) -> Result<Ending, AllocError>
+    ensures refused { (IsShort error.now → ⊥) → IsOkAnd result (λ e. e ≡ endings.usage) }
+    ensures short { IsShort error.now → IsErr result }
 {
-    match path_of(alloc, words) {
+    match error.kind() {
+        ErrorKind::OutOfMemory => Err(AllocError),
+        _ => Ok(usage()),
+    }
+}
+
+/// How the run ends for which the command line gave this path, or this error.
+pub fn ended<F: Files>(
+    alloc: Global,
+    path: Result<&str, Error>,
+    files: &mut F,
+) -> Result<Ending, AllocError>
+    ensures told { (told : Told) → F.tells files.old ≡ Some told →
+        IfOk result (λ e. e ≡ of_path sha_hash told (named path.entry)) }
+    ensures read { (told : Told) → F.tells files.old ≡ Some told →
+        OnOk result (F.tells files.new ≡ Some (told_beside (named path.entry) told)) }
+    ensures read_short { (told : Told) → F.tells files.old ≡ Some told →
+        OnErr result (TellsEither told (told_beside (named path.entry) told) (F.tells files.new)) }
+
+    // Words that the command line refuses end by the usage line, unless it is for want of memory.
+    ensures refused { IfErr path.entry (λ error. (IsShort error → ⊥) →
+        IsOkAnd result (λ e. e ≡ endings.usage)) }
+    ensures short { IfErr path.entry (λ error. IsShort error → IsErr result) }
+    ensures quiet { OnErr path.entry (files.new ≡ files.old) }
+
+    // Each status has its cause, and a read that failed is told.
+    ensures cause { IfOk result (λ e.
+        IsCaused (is_err path.entry) (F.faults files.old) (F.faults files.new) e.status e.text) }
+    ensures no_fault { OnErr result (F.faults files.new ≡ F.faults files.old) }
+{
+    match path {
         Ok(path) => after_path(alloc, files, path),
-        Err(WordsFail::Usage) => usage(alloc),
-        Err(WordsFail::NoMemory) => Err(AllocError),
+        Err(error) => after_error(&error),
     }
 }

@@ -1,46 +1,11 @@
 //! Whole runs over files in memory. The digests and the cdhash were made with Python's hashlib.
 
 use crate::csverify_main;
+use cs_samples::{put, thin_arm64, thin_large_pages};
 use pg_bytes::{Status, Which};
 use pg_io::{MemFiles, MemSink};
 use std::alloc::Global;
 use std::test::Fail;
-
-/// The header and the load commands of a thin file for arm64, of 8,520 bytes.
-const COMMANDS: [u8; 192] = [
-    0xcf, 0xfa, 0xed, 0xfe, 0x0c, 0, 0, 1, 0, 0, 0, 0, 2, 0, 0, 0, // magic, arm64, a program
-    3, 0, 0, 0, 0xa0, 0, 0, 0, 0x85, 0, 0x20, 0, 0, 0, 0, 0, // three commands in 160 bytes
-    0x19, 0, 0, 0, 72, 0, 0, 0, // 32: a segment
-    b'_', b'_', b'T', b'E', b'X', b'T', 0, 0, 0, 0, 0, 0, 0, 0, 0, 0, //
-    0, 0, 0, 0, 0, 0, 0, 0, 0, 0, 0, 0, 0, 0, 0, 0, // vmaddr, vmsize
-    0, 0, 0, 0, 0, 0, 0, 0, 0, 0x20, 0, 0, 0, 0, 0, 0, // fileoff 0, filesize 8,192
-    0, 0, 0, 0, 0, 0, 0, 0, 0, 0, 0, 0, 0, 0, 0, 0, // maxprot, initprot, nsects, flags
-    0x19, 0, 0, 0, 72, 0, 0, 0, // 104: a segment
-    b'_', b'_', b'L', b'I', b'N', b'K', b'E', b'D', b'I', b'T', 0, 0, 0, 0, 0, 0, //
-    0, 0, 0, 0, 0, 0, 0, 0, 0, 0, 0, 0, 0, 0, 0, 0, // vmaddr, vmsize
-    0, 0x20, 0, 0, 0, 0, 0, 0, 0x48, 1, 0, 0, 0, 0, 0, 0, // fileoff 8,192, filesize 328
-    0, 0, 0, 0, 0, 0, 0, 0, 0, 0, 0, 0, 0, 0, 0, 0, // maxprot, initprot, nsects, flags
-    0x1d, 0, 0, 0, 16, 0, 0, 0, 0x70, 0x20, 0, 0, 0xd8, 0, 0, 0, // 176: a signature
-];
-
-/// Its signature, at 8,304: a SuperBlob whose one entry, at 24, is a code directory of SHA-256 for three hash pages,
-/// with the identifier `b` and the limit 8,304.
-const SIGNATURE: [u8; 216] = [
-    0xfa, 0xde, 0x0c, 0xc0, 0x00, 0x00, 0x00, 0xd8, 0x00, 0x00, 0x00, 0x01, 0x00, 0x00, 0x00, 0x00,
-    0x00, 0x00, 0x00, 0x18, 0x00, 0x00, 0x00, 0x00, 0xfa, 0xde, 0x0c, 0x02, 0x00, 0x00, 0x00, 0xc0,
-    0x00, 0x02, 0x04, 0x00, 0x00, 0x02, 0x00, 0x02, 0x00, 0x00, 0x00, 0x60, 0x00, 0x00, 0x00, 0x58,
-    0x00, 0x00, 0x00, 0x00, 0x00, 0x00, 0x00, 0x03, 0x00, 0x00, 0x20, 0x70, 0x20, 0x02, 0x00, 0x0c,
-    0x00, 0x00, 0x00, 0x00, 0x00, 0x00, 0x00, 0x00, 0x00, 0x00, 0x00, 0x00, 0x00, 0x00, 0x00, 0x00,
-    0x00, 0x00, 0x00, 0x00, 0x00, 0x00, 0x00, 0x00, 0x00, 0x00, 0x00, 0x00, 0x00, 0x00, 0x00, 0x00,
-    0x00, 0x00, 0x00, 0x00, 0x00, 0x00, 0x20, 0x00, 0x00, 0x00, 0x00, 0x00, 0x00, 0x00, 0x00, 0x01,
-    0x62, 0x00, 0x00, 0x00, 0x00, 0x00, 0x00, 0x00, 0x43, 0x14, 0x2c, 0xf8, 0x24, 0x65, 0xc7, 0x0a,
-    0xb6, 0xb5, 0x35, 0xe1, 0xdf, 0xf4, 0x84, 0x23, 0x55, 0xf6, 0x3c, 0xb1, 0x96, 0x56, 0x18, 0x2c,
-    0x3d, 0x6e, 0xe6, 0x0d, 0x3f, 0x72, 0x57, 0x6c, 0x46, 0xe4, 0xe5, 0xb3, 0xfe, 0x25, 0x49, 0xda,
-    0x0e, 0xcf, 0xcf, 0x8d, 0x06, 0x7a, 0xc0, 0x60, 0xb3, 0xb8, 0xfd, 0x13, 0x29, 0x81, 0x04, 0x3e,
-    0xeb, 0x66, 0xc7, 0xc3, 0xbe, 0x87, 0x58, 0x48, 0x9b, 0x0e, 0xc2, 0x51, 0x0d, 0x12, 0xd2, 0xe5,
-    0xee, 0xf1, 0xd3, 0x54, 0x97, 0x7c, 0xdf, 0x8a, 0x6a, 0x2d, 0x91, 0x98, 0x7e, 0x2c, 0x34, 0x2c,
-    0x68, 0x5d, 0x45, 0x00, 0xdb, 0x19, 0xab, 0x06,
-];
 
 /// The report on the file.
 const SEALED: &str = "\
@@ -55,6 +20,13 @@ slice 0 arch 0100000c 00000000 type 2
 slice 0 accepted cdhash bb2576d3b1410f658d4d9174e40456b40d79c596 kind 2 flags 00020002 limit 8304 slots 3 ident 62
 slice 0 page 1 mismatch found 8f0d4d26ca0b2bb94734355e98048f821767784f280c33e8cd80b0340bd9bab5 wanted 46e4e5b3fe2549da0ecfcf8d067ac060b3b8fd132981043eeb66c7c3be875848
 slice 0 pages 2 of 3
+";
+
+/// The report on the file with one hash page of 16,384 bytes.
+const LARGE: &str = "\
+slice 0 arch 0100000c 00000000 type 2
+slice 0 accepted cdhash 88070eff79fc39bc91139e7c2279dd4af9f7c347 kind 2 flags 00020002 limit 8304 slots 1 ident 62
+slice 0 pages 1 of 1
 ";
 
 /// The line for a command line of another form.
@@ -81,16 +53,6 @@ const SOUND: Outside<'static> = Outside {
     room: 4096,
     writes: &[],
 };
-
-/// The whole file: zeros up to a page, a page of spaces, 112 bytes of a third page, and the signature.
-fn thin_arm64(alloc: Global) -> Result<Vec<u8>, Fail> {
-    let mut bytes = COMMANDS.to_vec(alloc)?;
-    bytes.resize(4096, 0)?;
-    bytes.resize(8192, 0x20)?;
-    bytes.resize(8304, 0x30)?;
-    bytes.extend_from_slice(&SIGNATURE)?;
-    Ok(bytes)
-}
 
 /// Runs these words over one file in memory.
 fn run(
@@ -169,12 +131,11 @@ fn command_lines(rt: HostRuntime) -> Result<(), Fail> {
 fn whole_reports(rt: HostRuntime) -> Result<(), Fail> {
     let alloc = rt.alloc();
     let mut changed = thin_arm64(alloc)?;
-    if let Some(byte) = changed.get_mut(4096) {
-        *byte = 0x21;
-    }
+    put(&mut changed, 4096, &[0x21]);
     for (bytes, status, text) in [
         (thin_arm64(alloc)?, Status::Done, SEALED),
         (changed, Status::NotSealed, CHANGED),
+        (thin_large_pages(alloc)?, Status::Done, LARGE),
         (
             Vec::new(alloc),
             Status::NotSealed,

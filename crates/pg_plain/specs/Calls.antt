@@ -101,6 +101,11 @@ page_calls hash file (event.Load id page at count resolve) = []
 page_calls hash file (event.Fetch id page at count resolve) = []
 page_calls hash file (event.Evict page) = if is_dirty file page then page ∷ [] else []
 
+-- how many of so many calls are made, by the outcome: none behind one that failed
+abbrev pub calls_made : ℕ → ℕ → ℕ
+calls_made zero calls = calls
+calls_made (suc before) calls = suc before
+
 -- the page of the call that failed, where one did
 abbrev pub failed_page : List ℕ → ℕ → Option ℕ
 failed_page calls zero = None

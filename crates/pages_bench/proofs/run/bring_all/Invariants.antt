@@ -4,6 +4,6 @@ use Rattle.pages_bench.proofs.run.bring_all.Given as goal
 
 abbrev pub invariant-loop-step : goal.invariant-loop-step
 invariant-loop-step l = record {
-  pages : IsBenched l.cache;
+  pages : IsBenched l.pages;
   count : l.brought ≤ l.step;
 }
