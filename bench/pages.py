@@ -5,9 +5,9 @@ Run at the top of the repository after the gate, which leaves the program built:
 is how often the program is run (15). Each round of `pages_bench` makes 100,000 brings, as many checks of validated pages
 and as many puts of one byte three times: over 16 pages where only these are resident; over 16 pages where 4,096 are
 resident; and over all 4,096. The first two touch the same memory, so their ratio is what the number of resident pages
-costs. The third touches 4,096 pages of memory in turn, so it pays for the processor's caches too. In the same process
-one page of 4,096 bytes is hashed 1,000 times. Times a step are from the best round; each ratio is of the best rounds,
-and how many steps one hash costs.
+costs. The third touches 4,096 pages of memory in turn, so it pays for the processor's caches too: what that alone costs
+is seen by bare writes of a byte into as many pages of bytes. In the same process one page of 4,096 bytes is hashed 1,000
+times. Times a step are from the best round; each ratio is of the best rounds, and how many steps one hash costs.
 
 Opening the pages, which takes all memory, the first read and the first check of each page are not timed. A put asks
 first whether its page is resident, and that is part of its time.
@@ -19,7 +19,7 @@ import sys
 from pathlib import Path
 
 ROUNDS = 15
-STEPS = re.compile(r"^(\d+) (brings|checks|puts) on (\d+) of (\d+) took (\d+) ns$", re.MULTILINE)
+STEPS = re.compile(r"^(\d+) (brings|checks|puts|bare writes) on (\d+) of (\d+) took (\d+) ns$", re.MULTILINE)
 HASHES = re.compile(r"^(\d+) hashes took (\d+) ns$", re.MULTILINE)
 
 Step = tuple[str, int, int]
@@ -47,10 +47,10 @@ def main() -> int:
     best = {step: min(steps[step] for steps, _ in runs) for step in runs[0][0]}
     hashed = min(nanos for _, nanos in runs)
     print(f"{rounds} rounds, load {load:.1f} on {os.cpu_count()} processors; one hash takes {hashed:.0f} ns")
-    print(f"{'step':<8} {'pages':>5} {'resident':>8} {'ns':>7} {'to 16 of 16':>11} {'hash / step':>11}")
+    print(f"{'step':<11} {'pages':>5} {'resident':>8} {'ns':>7} {'to 16 of 16':>11} {'hash / step':>11}")
     for (what, used, limit), nanos in best.items():
         ratio = nanos / best[what, 16, 16]
-        print(f"{what:<8} {used:>5} {limit:>8} {nanos:>7.1f} {ratio:>11.2f} {hashed / nanos:>11.0f}")
+        print(f"{what:<11} {used:>5} {limit:>8} {nanos:>7.1f} {ratio:>11.2f} {hashed / nanos:>11.0f}")
     return 0
 
 

@@ -1,14 +1,15 @@
 //! `pages_bench` times steps on resident pages of a file: on 16 pages of 16, on 16 of 4,096, and on 4,096 of 4,096.
 //!
-//! On standard output stand how many brings, checks and puts were made; on standard error how long they took, and how long
-//! SHA-256 hashes of one page of 4,096 bytes took. Of times no clause says more than that a number stands there.
+//! On standard output stand how many brings, checks and puts were made; on standard error how long they took, how long
+//! bare writes of a byte into as many pages took, and how long SHA-256 hashes of one page of 4,096 bytes took. Of times
+//! no clause says more than that a number stands there.
 #![tactic(auto)]
 
 mod fail;
 mod run;
 
 use fail::BenchFail;
-use run::{HASHES, Run, hashes_timed};
+use run::{HASHES, Run, hashes_timed, writes_timed};
 use std::alloc::Global;
 use std::process::ExitCode;
 use std::rt::Clock;
@@ -28,6 +29,11 @@ fn report<R: Clock + Print + Eprint>(rt: &R, alloc: Global) -> Result<(), BenchF
         let _ = eprintln!(rt; "{brought} brings on {used} of {limit} took {bring} ns");
         let _ = eprintln!(rt; "{checked} checks on {used} of {limit} took {check} ns");
         let _ = eprintln!(rt; "{written} puts on {used} of {limit} took {put} ns");
+    }
+    for (limit, used) in RUNS {
+        let (written, took) = writes_timed(rt, alloc, used)?;
+        let took = took.as_nanos();
+        let _ = eprintln!(rt; "{written} bare writes on {used} of {limit} took {took} ns");
     }
     let took = hashes_timed(rt, alloc)?.as_nanos();
     let _ = eprintln!(rt; "{HASHES} hashes took {took} ns");

@@ -112,6 +112,23 @@ fn put_all(pages: &mut Benched, used: u32) -> u32
     written
 }
 
+// Writes a byte into pages below `used` of bare bytes in turn, as the puts do, and counts the writes.
+fn write_all(bytes: &mut [u8], used: u32) -> u32
+    requires some { 0 < used }
+    requires most { used ≤ PAGES }
+    ensures count { result ≤ STEPS }
+{
+    let mut written = 0;
+    for step in 0..STEPS {
+        let page = page_at(step, used) as usize;
+        if let Some(byte) = bytes.get_mut(page * PAGES as usize + page % 64 * 64) {
+            *byte = 1;
+            written += 1;
+        }
+    }
+    written
+}
+
 // The page of a step: each below `used` comes in turn, where that is a power of two, far from the one before.
 fn page_at(step: u32, used: u32) -> u64
     requires { 0 < used }
@@ -183,6 +200,23 @@ impl Run {
             put_took,
         })
     }
+}
+
+/// Writes a byte `STEPS` times into the first `used` of so many pages of bare bytes, and gives how often, and the time.
+/// It touches as much memory as the puts, and nothing else.
+pub fn writes_timed<R: Clock>(
+    rt: &R,
+    alloc: Global,
+    used: u32,
+) -> Result<(u32, Duration), BenchFail>
+    requires some { 0 < used }
+    requires most { used ≤ PAGES }
+    ensures count { IfOk result (λ timed. timed.0 ≤ STEPS) }
+{
+    let mut bytes = vec![in alloc; 0u8; PAGES as usize * PAGES as usize]?;
+    let start = now(rt)?;
+    let written = write_all(&mut bytes, used);
+    Ok((written, since(rt, start)?))
 }
 
 /// The time of `HASHES` SHA-256 hashes of one page of zeros.
