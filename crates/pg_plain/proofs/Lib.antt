@@ -9,3 +9,4 @@ pub mod ChangeFacts
 pub mod StepFacts
 pub mod ContentFacts
 pub mod ReplyFacts
+pub mod FitFacts

@@ -1,5 +1,5 @@
 -- Once it was started, a process that is not guarded stays so.
-use Rattle.std.proofs.Common.{◌≡◌, ◌≢◌, ℕ, false, ◌+◌, ◌&&◌, not, map, length, Option, Some, None, refl, ◌∙◌}
+use Rattle.std.proofs.Common.{◌≡◌, ◌≢◌, ℕ, false, ◌+◌, ◌&&◌, not, [], ◌∷◌, map, length, Option, Some, None, refl, ◌∙◌}
 use Rattle.std.specs.Prelude.{find, nat_lt}
 use Rattle.cs_policy.specs.declared.process.ProcEvent.{ProcEvent}
 use Rattle.cs_policy.specs.declared.process.ProcEvent.TheVariants.{Start, Insert, Resolve, Remove, Debug, Punish, ClearValid, Exit}
@@ -10,14 +10,14 @@ use Rattle.pg_process.specs.declared.mapping.Mapping.{Mapping}
 use Rattle.pg_process.specs.declared.state.State.{State}
 use Rattle.pg_process.specs.declared.state.State.TheVariants.{Fresh, Alive, Killed, Gone}
 use Rattle.pg_process.specs.Regions.{met, least, begins_at, with_mapping}
-use Rattle.pg_process.specs.ProcessStep.{PlainProcess, next_id, row, started, inserted, removed}
+use Rattle.pg_process.specs.ProcessStep.{PlainProcess, next_id, row, started, inserted, removed, process_step}
 use Rattle.pg_process.proofs.StepFacts.{either_step, events_keep}
 use Rattle.pg_process.specs.Laws.{after_events, UnguardedStaysUnguarded}
 
 -- the process was started, and is not guarded
-record IsUnguarded (p : PlainProcess) : Type 0 where
-  begun : p.state ≢ Fresh
-  unguarded : guarded p.flags ≡ false
+pub record IsUnguarded (p : PlainProcess) : Type 0 where
+  pub begun : p.state ≢ Fresh
+  pub unguarded : guarded p.flags ≡ false
 
 started_kept : (state : State) (p : PlainProcess) → state ≢ Fresh → IsUnguarded p → IsUnguarded (started state p).1
 started_kept Fresh p begun kept = absurd (begun refl)
@@ -49,6 +49,10 @@ row_kept p Punish kept =
     (record { begun = λ same. cc; unguarded = guarded-with_killed p.flags ∙ kept.unguarded }) kept
 row_kept p ClearValid kept = record { begun = kept.begun; unguarded = guarded-without_valid p.flags ∙ kept.unguarded }
 row_kept p Exit kept = record { begun = λ same. cc; unguarded = kept.unguarded }
+
+-- after one event
+pub step_unguarded : (p : PlainProcess) (e : ProcEvent) → IsUnguarded p → IsUnguarded (process_step p e).1
+step_unguarded p e kept = events_keep IsUnguarded row_kept (e ∷ []) p kept
 
 pub stays_unguarded : UnguardedStaysUnguarded
 stays_unguarded p events begun unguarded =

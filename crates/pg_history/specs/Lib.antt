@@ -1,0 +1,9 @@
+pub mod Machine
+pub mod Opening
+pub mod Calls
+pub mod Links
+pub mod Legal
+pub mod Solo
+pub mod Content
+pub mod Sealing
+pub mod Denials

@@ -1,0 +1,13 @@
+pub mod ListFacts
+pub mod StepCases
+pub mod FileFacts
+pub mod UnguardedFacts
+pub mod ProcessFacts
+pub mod SteppedFacts
+pub mod Holds
+pub mod ExtendFacts
+pub mod BlobFacts
+pub mod FileStepFacts
+pub mod StepHolds
+pub mod OpeningFacts
+pub mod SealingFacts
