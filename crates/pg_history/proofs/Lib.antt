@@ -1,1 +1,10 @@
+pub mod ListFacts
+pub mod SteppedFacts
 pub mod DenialFacts
+pub mod FewFacts
+pub mod OrderFacts
+pub mod SoloFacts
+pub mod ReplyFacts
+pub mod LinkFacts
+pub mod ScriptLinkFacts
+pub mod PartFacts

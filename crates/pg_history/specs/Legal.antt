@@ -46,23 +46,37 @@ entries_by worker history = filter (λ e. e.entry.who.worker == worker) history
 abbrev pub script_at : List (List Call) → ℕ → List Call
 script_at scripts worker = slice_index_or scripts worker []
 
+-- how many calls the scripts have
+abbrev pub calls_in : List (List Call) → ℕ
+calls_in [] = 0
+calls_in (script ∷ scripts) = length script + calls_in scripts
+
 -- the part and the caller that stand with an entry are those of its place and of its worker
 pub record AgreesIn (numbers : Numbers) (e : Line) : Type 0 where
   pub part : e.part ≡ part_number (length numbers.files) numbers.processes e.entry.place
   pub caller : e.caller ≡ e.entry.who.worker
 
+-- each entry has its place in the history as its stamp
+abbrev pub IsStamped : List Line → Type 0
+IsStamped history = (k : ℕ) (e : Line) → slice_get history k ≡ Some e → e.stamp ≡ k
+
+abbrev pub Agrees : Numbers → List Line → Type 0
+Agrees numbers history = (k : ℕ) (e : Line) → slice_get history k ≡ Some e → AgreesIn numbers e
+
+-- each script's calls are there once and in their order, and nothing else is
+abbrev pub AreScripted : Hash → Numbers → List (List Call) → List Line → Type 0
+AreScripted hash numbers scripts history = (worker : ℕ) → Scripted hash numbers worker 0 (script_at scripts worker) (entries_by worker history)
+
 -- A history that the machine answers, each of whose entries rests on earlier ones of its call.
 pub record Linked (hash : Hash) (o : Opening) (history : List Line) : Type 0 where
-  -- each entry has its place in the history as its stamp
-  pub stamps : (k : ℕ) (e : Line) → slice_get history k ≡ Some e → e.stamp ≡ k
-  pub agrees : (k : ℕ) (e : Line) → slice_get history k ≡ Some e → AgreesIn (numbers_of o) e
+  pub stamps : IsStamped history
+  pub agrees : Agrees (numbers_of o) history
   -- each reply is what the machine replies then
   pub replies : Answered hash o.machine history
   -- each stamp that an event names is of an earlier entry of its call, on which it rests
   pub links : (k : ℕ) (e : Line) → slice_get history k ≡ Some e → IsLinked hash (numbers_of o) history e
 
--- A legal history of scripts from an opening: besides, each script's calls are there once and in their order, and nothing
--- else is.
+-- A legal history of scripts from an opening.
 pub record Legal (hash : Hash) (o : Opening) (scripts : List (List Call)) (history : List Line) : Type 0 where
   pub linked : Linked hash o history
-  pub calls : (worker : ℕ) → Scripted hash (numbers_of o) worker 0 (script_at scripts worker) (entries_by worker history)
+  pub calls : AreScripted hash (numbers_of o) scripts history

@@ -7,3 +7,4 @@ pub mod Solo
 pub mod Content
 pub mod Sealing
 pub mod Denials
+pub mod ByParts

@@ -1,5 +1,6 @@
 -- The history of scripts that run one after another.
-use Rattle.std.specs.Prelude.{ℕ, zero, suc, ◌+◌, List, [], ◌∷◌, ◌++◌, length, Option, Some, None}
+use Rattle.std.specs.Prelude.{ℕ, zero, suc, ◌+◌, ◌≤◌, List, [], ◌∷◌, ◌++◌, length, Option, Some, None}
+use Rattle.std.specs.List.{AllByRecursion}
 use Rattle.pg_digest.specs.Kinds.{Hash}
 use Rattle.cs_policy.specs.declared.call.Call.{Call}
 use Rattle.cs_policy.specs.declared.entry.Who.{Who}
@@ -66,3 +67,8 @@ history_of hash numbers m stamp (made ∷ others) =
 -- the history of the scripts, each of whose entries stand before those of the next
 abbrev pub solo : Hash → Opening → List (List Call) → List Line
 solo hash o scripts = history_of hash (numbers_of o) o.machine 0 (all_calls 0 scripts)
+
+-- the entries of each script stand before those of the next
+abbrev pub InOrder : List Line → Type 0
+InOrder [] = Unit {0}
+InOrder (e ∷ es) = AllByRecursion (λ later. e.entry.who.worker ≤ later.entry.who.worker) es × InOrder es

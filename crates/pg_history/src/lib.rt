@@ -7,4 +7,6 @@
 
 mod laws;
 
-pub use laws::denials_are_verdicts;
+pub use laws::{
+    denials_are_verdicts, ordered_is_solo, parts_answer, scripts_link, scripts_make_few_regions,
+};

@@ -22,7 +22,7 @@ use Rattle.pg_plain.specs.Steps.{is_same_blob, add_blob_by, file_step}
 use Rattle.pg_plain.proofs.FitFacts.{signed_fits}
 use Rattle.pg_history.specs.Machine.{FilePart, Reading, reading_at, signed_range, signature_read, blob_of}
 use Rattle.pg_history.specs.Opening.{seat_in}
-use Rattle.pg_sealing.proofs.ListFacts.{get-last}
+use Rattle.pg_history.proofs.ListFacts.{get-last}
 use Rattle.pg_sealing.proofs.StepCases.{step_leaves}
 use Rattle.pg_sealing.proofs.FileFacts.{given_blobs}
 

@@ -13,7 +13,7 @@ use Rattle.pg_history.specs.Opening.{Opening}
 use Rattle.pg_history.specs.Content.{Told, told_at, told_over}
 use Rattle.pg_history.specs.Links.{IsNamed, NamesLookup}
 use Rattle.pg_history.specs.Sealing.{Admitted}
-use Rattle.pg_sealing.proofs.ListFacts.{get-front, get-last, all-map}
+use Rattle.pg_history.proofs.ListFacts.{get-front, get-last, all-map}
 use Rattle.pg_sealing.proofs.Holds.{untold, FileHolds}
 
 -- one line more

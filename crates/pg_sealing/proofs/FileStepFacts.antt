@@ -33,7 +33,7 @@ use Rattle.pg_history.specs.Calls.{admits}
 use Rattle.pg_history.specs.Content.{Told, regions_after, told_after, told_at, told_over}
 use Rattle.pg_history.specs.Links.{IsNamed, NamesLookup, LinksBlob, LinksRegion, LinksResolved, IsLinkedAt}
 use Rattle.pg_history.specs.Sealing.{Admitted}
-use Rattle.pg_sealing.proofs.ListFacts.{get-front, get-before, get-last, get-end, find-front, find-last, all-append, all-map, all-filter, all-in_order}
+use Rattle.pg_history.proofs.ListFacts.{get-front, get-before, get-last, get-end, find-front, find-last, all-append, all-map, all-filter, all-in_order}
 use Rattle.pg_sealing.proofs.FileFacts.{Stays, step_stays, step_regions}
 use Rattle.pg_sealing.proofs.UnguardedFacts.{gives_unguarded, step_adds}
 use Rattle.pg_sealing.proofs.BlobFacts.{blob_is, unbroken_fits, Attaches, step_blobs}

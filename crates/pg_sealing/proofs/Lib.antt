@@ -1,9 +1,7 @@
-pub mod ListFacts
 pub mod StepCases
 pub mod FileFacts
 pub mod UnguardedFacts
 pub mod ProcessFacts
-pub mod SteppedFacts
 pub mod Holds
 pub mod ExtendFacts
 pub mod BlobFacts

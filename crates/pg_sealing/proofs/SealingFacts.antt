@@ -20,7 +20,7 @@ use Rattle.pg_history.specs.Content.{Told, content}
 use Rattle.pg_history.specs.Links.{IsLinked}
 use Rattle.pg_history.specs.Legal.{Linked}
 use Rattle.pg_history.specs.Sealing.{IsExecutable, IsSealedIn, SealInv, SealedThroughout, KeptThroughout, FewThroughout}
-use Rattle.pg_sealing.proofs.ListFacts.{get-end}
+use Rattle.pg_history.proofs.ListFacts.{get-end}
 use Rattle.pg_sealing.proofs.UnguardedFacts.{executes_unguarded, unguarded}
 use Rattle.pg_sealing.proofs.Holds.{IsOwned, FileHolds, Holds, FewRegions}
 use Rattle.pg_sealing.proofs.ExtendFacts.{with_line}

@@ -1,5 +1,5 @@
 -- What is known of the machine is known after one more event.
-use Rattle.std.proofs.Common.{◌≡◌, ◌⊎◌, ◌≤◌, ◌/◌, ℕ, Bool, true, false, List, ◌∷◌, ◌++◌, length, Some, refl, sym, ap, subst, ◌∙◌, arith, inl, inr}
+use Rattle.std.proofs.Common.{◌≡◌, ◌≤◌, ◌/◌, ℕ, Bool, true, false, List, ◌∷◌, ◌++◌, length, Some, refl, sym, ap, subst, ◌∙◌, arith, inl, inr}
 use Rattle.std.specs.Prelude.{◌==◌, slice_get, slice_set}
 use Rattle.std.proofs.lemmas.Grind.{common_steps}
 use Rattle.pg_bytes.specs.PageSize.{IsPageSize}
@@ -22,9 +22,9 @@ use Rattle.pg_history.specs.Machine.{Line, FilePart, Machine, part_step, reply_t
 use Rattle.pg_history.specs.Opening.{Opening, numbers_of}
 use Rattle.pg_history.specs.Content.{Told, told_at}
 use Rattle.pg_history.specs.Links.{IsLinked, IsLinkedAt}
-use Rattle.pg_sealing.proofs.ListFacts.{get-set_same, get-set_other, get-last}
+use Rattle.pg_history.proofs.ListFacts.{get-set_same, get-last, at_place}
 use Rattle.pg_sealing.proofs.ProcessFacts.{HasNumber, step_numbers, Resolves, resolve_reply, insert_reply, inserted_owner}
-use Rattle.pg_sealing.proofs.SteppedFacts.{FileSteps, ProcessSteps, TrustSteps, stepped}
+use Rattle.pg_history.proofs.SteppedFacts.{FileSteps, ProcessSteps, TrustSteps, stepped}
 use Rattle.pg_sealing.proofs.Holds.{FileHolds, WasResolved, Holds, FewRegions}
 use Rattle.pg_sealing.proofs.ExtendFacts.{with_line, StayUnguarded, file_extends}
 use Rattle.pg_sealing.proofs.FileStepFacts.{stepped_holds}
@@ -49,15 +49,6 @@ reply_inside a b e = grind (arith, common_steps, e)
 
 apart_numbers : (i j : ℕ) → (i == j) ≡ false → i ≡ j → ⊥
 apart_numbers i j e f = absurd (grind (arith, common_steps, e, f))
-
--- what stands in a list that was changed at a place: the new element there, or an old one elsewhere
-at_place : {X : Type 0} (xs : List X) (i j : ℕ) (x y z : X) → slice_get xs i ≡ Some y → slice_get (slice_set xs i x) j ≡ Some z
-    → ((j ≡ i) × (z ≡ x)) ⊎ (((j == i) ≡ false) × (slice_get xs j ≡ Some z))
-at_place xs i j x y z there e = by_test (j == i) refl
-  where
-    by_test : (b : Bool) → (j == i) ≡ b → ((j ≡ i) × (z ≡ x)) ⊎ (((j == i) ≡ false) × (slice_get xs j ≡ Some z))
-    by_test true f = inl (same_number j i f, some_inside z x (sym e ∙ ap (λ k. slice_get (slice_set xs i x) k) (same_number j i f) ∙ get-set_same xs i x y there))
-    by_test false f = inr (f, sym (get-set_other xs i j x f) ∙ e)
 
 module _ (hash : Hash) (o : Opening) (known : IsPageSize o.page_size) (history later : List Line) (m : Machine) (e : Line) (holds : Holds hash o history m) (stamp : e.stamp ≡ length history)
     (link : IsLinked hash (numbers_of o) (history ++ e ∷ later) e) where

@@ -1,9 +1,12 @@
 -- Elements by their places in lists that grow or change at a place.
-use Rattle.std.proofs.Common.{◌≡◌, ◌⊎◌, ℕ, zero, suc, ◌<◌, Bool, true, false, List, [], ◌∷◌, ◌++◌, length, Some, refl, arith, inl, inr}
+use Rattle.std.proofs.Common.{◌≡◌, ◌⊎◌, ℕ, zero, suc, ◌<◌, Bool, true, false, List, [], ◌∷◌, ◌++◌, length, Some, refl, sym, ap, ◌∙◌, arith, inl, inr}
 use Rattle.std.specs.Prelude.{◌==◌, slice_get, slice_set, find, filter, if◌then◌else◌}
 use Rattle.pg_bytes.specs.Order.{in_order}
 use Rattle.std.specs.List.{AllByRecursion}
 use Rattle.std.proofs.lemmas.Grind.{common_steps}
+
+same_place : (i j : ℕ) → (i == j) ≡ true → i ≡ j
+same_place i j e = grind (arith, common_steps, e)
 
 module _ {X : Type 0} where
   pub get-set_same : (xs : List X) (i : ℕ) (x y : X) → slice_get xs i ≡ Some y → slice_get (slice_set xs i x) i ≡ Some x
@@ -81,3 +84,15 @@ module _ {X : Type 0} where
       by_test : (b : Bool) → AllByRecursion P (in_order before new xs) → AllByRecursion P (if b then x ∷ in_order before new xs else new ∷ x ∷ xs)
       by_test true rest = (all.0, rest)
       by_test false rest = (one, all)
+
+  some_same : (x y : X) → Some x ≡ Some y → x ≡ y
+  some_same x y e = grind (arith, common_steps, e)
+
+  -- what stands in a list that was changed at a place: the new element there, or an old one elsewhere
+  pub at_place : (xs : List X) (i j : ℕ) (x y z : X) → slice_get xs i ≡ Some y → slice_get (slice_set xs i x) j ≡ Some z
+      → ((j ≡ i) × (z ≡ x)) ⊎ (((j == i) ≡ false) × (slice_get xs j ≡ Some z))
+  at_place xs i j x y z there e = by_test (j == i) refl
+    where
+      by_test : (b : Bool) → (j == i) ≡ b → ((j ≡ i) × (z ≡ x)) ⊎ (((j == i) ≡ false) × (slice_get xs j ≡ Some z))
+      by_test true f = inl (same_place j i f, some_same z x (sym e ∙ ap (λ k. slice_get (slice_set xs i x) k) (same_place j i f) ∙ get-set_same xs i x y there))
+      by_test false f = inr (f, sym (get-set_other xs i j x f) ∙ e)
