@@ -38,7 +38,8 @@ pub fn blob<D: Digester>(
     ensures accepted { IfOk result (IsSignature D.hash bytes.items slice.now page) }
     ensures limited { IfOk result (λ held. held.best.limit ≤ slice.now.len) }
     ensures refused { IfErr result (Refuses (broken D.hash bytes.items slice.now page)) }
-    ensures digests { RoseBy (digests_of (entries bytes.items) result) (D.calls d.old) (D.calls d.new) }
+    ensures digests { RoseBy (digests_of (entries bytes.items) result)
+        (D.calls d.old) (D.calls d.new) }
 {
     let best = best_of(alloc, &bytes, slice, page, d)?;
     let cdhash = best.directory.cdhash(bytes_in(&bytes, &best.seat.range), d);
@@ -63,7 +64,8 @@ fn best_of<D: Digester>(
     ensures accepted { IfOk result (IsBest D.hash bytes.now slice.now page) }
     ensures limited { IfOk result (λ best. best.directory.limit ≤ slice.now.len) }
     ensures refused { IfErr result (Refuses (broken D.hash bytes.now slice.now page)) }
-    ensures digests { RoseBy (digests_to_best (entries bytes.now) result) (D.calls d.old) (D.calls d.new) }
+    ensures digests { RoseBy (digests_to_best (entries bytes.now) result)
+        (D.calls d.old) (D.calls d.new) }
 {
     let parts = parts_of(alloc, bytes)?;
     let found = candidates_of(alloc, bytes, &parts.directories)?;

@@ -4,6 +4,7 @@ ghost use Rattle.macho_slices.specs.Refusals.{refusal_of};
 use super::*;
 use FatRefusal::*;
 use cs_policy::Refusal;
+use cs_samples::put;
 use pg_bytes::Range;
 use std::alloc::Global;
 use std::test::Fail;
@@ -30,13 +31,6 @@ const WIDE: [u8; 88] = [
 
 fn range(at: u64, len: u64) -> Range {
     Range { at, len }
-}
-
-/// Writes bytes at a place.
-fn put(bytes: &mut [u8], at: usize, field: &[u8]) {
-    for (place, byte) in bytes.iter_mut().skip(at).zip(field) {
-        *place = *byte;
-    }
 }
 
 /// A fat file of so many bytes, with a narrow record for each offset and size.

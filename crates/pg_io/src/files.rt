@@ -23,7 +23,8 @@ pub trait Files {
 
     /// Reads the file of that name: all its bytes, or the first `most` of a longer file.
     fn read(&mut self, alloc: Global, name: &str, most: u64) -> Result<Vec<u8>, ReadFail>
-        ensures told { (told : Told) → tells self.old ≡ Some told → ReadGives told name.now most result (tells self.new) }
+        ensures told { (told : Told) → tells self.old ≡ Some told →
+            ReadGives told name.now most result (tells self.new) }
         ensures untold { tells self.old ≡ None → tells self.new ≡ None }
         ensures most { IfOk result (λ v. vec_len v ≤ most) }
         ensures later { faults self.old ≤ faults self.new }

@@ -87,7 +87,8 @@ impl Sink for MemSink {
         ensures after { self.new ≡ after_write self.old bytes.now }
         ensures later { self.old.faults ≤ self.new.faults }
         ensures failed { OnErr result (Rose self.old.faults self.new.faults) }
-        ensures nothing { result ≡ Ok 0 → 0 < length bytes.now → Rose self.old.faults self.new.faults }
+        ensures nothing { result ≡ Ok 0 → 0 < length bytes.now →
+            Rose self.old.faults self.new.faults }
         ensures sound { IfOk result (λ n. 0 < n → self.new.faults ≡ self.old.faults) }
     {
         let fails = self.calls.next_fails();

@@ -18,12 +18,14 @@ pub trait Sink {
     /// Writes the first bytes of a piece and answers how many they are. After an `Err` none went out.
     fn write(&mut self, bytes: &[u8]) -> Result<usize, Failed>
         ensures count { IfOk result (λ n. n ≤ length bytes.now) }
-        ensures written { written self.new ≡ append_known (written self.old) (take (sent result) bytes.now) }
+        ensures written { written self.new ≡
+            append_known (written self.old) (take (sent result) bytes.now) }
         ensures later { faults self.old ≤ faults self.new }
 
         // It does not give up by itself: a failure is the outside's, and so is an answer of nothing.
         ensures failed { OnErr result (Rose (faults self.old) (faults self.new)) }
-        ensures nothing { result ≡ Ok 0 → 0 < length bytes.now → Rose (faults self.old) (faults self.new) }
+        ensures nothing { result ≡ Ok 0 → 0 < length bytes.now →
+            Rose (faults self.old) (faults self.new) }
 
         // Nor does it hide a fault behind bytes that it sent.
         ensures sound { IfOk result (λ n. 0 < n → faults self.new ≡ faults self.old) };
