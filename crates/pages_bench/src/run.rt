@@ -118,15 +118,15 @@ fn write_all(bytes: &mut [u8], used: u32) -> u32
     requires most { used ≤ PAGES }
     ensures count { result ≤ STEPS }
 {
-    let mut written = 0;
+    let mut made = 0;
     for step in 0..STEPS {
         let page = page_at(step, used) as usize;
         if let Some(byte) = bytes.get_mut(page * PAGES as usize + page % 64 * 64) {
             *byte = 1;
-            written += 1;
+            made += 1;
         }
     }
-    written
+    made
 }
 
 // The page of a step: each below `used` comes in turn, where that is a power of two, far from the one before.
