@@ -1,3 +1,4 @@
 pub mod CallFacts
 pub mod MarkFacts
+pub mod MarkLaws
 pub mod PartFacts

@@ -110,9 +110,10 @@ impl<P: Pager, D: Digester> Pages<P, D> {
         self.cache.bytes(page)
     }
 
-    // The page in the spare buffer, if there is one, is gone from there.
-    fn spare_goes(&mut self)
+    /// Forgets what was found of the page that stands in the spare buffer, if one does.
+    pub fn forget_spare(&mut self)
         ensures marks { self.new ≡ record self.old { marks = spare_gone self.old.cache self.old.marks } }
+        ensures marked { IsMarked D.hash self.new.cache self.new.marks }
     {
         self.marks.apply_if(self.cache.spare(), Row::Goes);
     }
@@ -122,7 +123,7 @@ impl<P: Pager, D: Digester> Pages<P, D> {
         ensures { self.new ≡ record self.old { marks = peeked self.old.cache page self.old.marks } }
     {
         if !self.cache.is_resident(page) {
-            self.spare_goes();
+            self.forget_spare();
         }
     }
 
@@ -131,7 +132,7 @@ impl<P: Pager, D: Digester> Pages<P, D> {
         ensures { self.new ≡ record self.old { marks = filled self.old.cache page self.old.marks } }
     {
         if !self.cache.is_resident(page) && self.cache.spare() != Some(page) {
-            self.spare_goes();
+            self.forget_spare();
         }
     }
 
@@ -209,7 +210,7 @@ impl<P: Pager, D: Digester> Pages<P, D> {
         ensures marked { IsMarked D.hash self.new.cache self.new.marks }
         ensures calls { self.new.calls ≡ self.old.calls }
     {
-        self.spare_goes();
+        self.forget_spare();
         self.cache.write(page, at, bytes)?;
         self.marks.apply(page, Row::Changed);
         Ok(())

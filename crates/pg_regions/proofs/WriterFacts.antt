@@ -29,13 +29,13 @@ min_has : (P : ℕ → Type 0) (a : ℕ) (ns : List ℕ) → P a → AllByRecurs
 min_has P a [] first all = first
 min_has P a (n ∷ ns) first all = min_has P (min a n) ns (elim (min_is a n) [ inl e ↦ subst P (sym e) first | inr e ↦ subst P (sym e) all.0 ]) all.1
 
-least_has : (P : ℕ → Type 0) (ns : List ℕ) (least : ℕ) → reduce min ns ≡ Some least → AllByRecursion P ns → P least
+pub least_has : (P : ℕ → Type 0) (ns : List ℕ) (least : ℕ) → reduce min ns ≡ Some least → AllByRecursion P ns → P least
 least_has P [] least e all = absurd (cc)
 least_has P (n ∷ ns) least e all =
     let same : fold min n ns ≡ least = cc in
     subst P same (min_has P n ns all.0 all.1)
 
-least_below : (ns : List ℕ) (least : ℕ) → reduce min ns ≡ Some least → AllByRecursion (λ n. least ≤ n) ns
+pub least_below : (ns : List ℕ) (least : ℕ) → reduce min ns ≡ Some least → AllByRecursion (λ n. least ≤ n) ns
 least_below [] least e = absurd (cc)
 least_below (n ∷ ns) least e =
     let same : fold min n ns ≡ least = cc in
@@ -43,7 +43,7 @@ least_below (n ∷ ns) least e =
 
 module _ {X : Type 0} (number : X → ℕ) (test : X → Bool) where
   -- what is true of the numbers of those that pass
-  numbers_have : (P : ℕ → Type 0) (Q : X → Type 0) (xs : List X) → ((x : X) → test x ≡ true → Q x → P (number x))
+  pub numbers_have : (P : ℕ → Type 0) (Q : X → Type 0) (xs : List X) → ((x : X) → test x ≡ true → Q x → P (number x))
       → AllByRecursion Q xs → AllByRecursion P (map number (filter test xs))
   numbers_have P Q [] step all = tt
   numbers_have P Q (x ∷ xs) step all = by_test (test x) refl (numbers_have P Q xs step all.1)
@@ -53,7 +53,7 @@ module _ {X : Type 0} (number : X → ℕ) (test : X → Bool) where
       by_test true e rest = subst (λ b. AllByRecursion P (map number (if b then x ∷ filter test xs else filter test xs))) (sym e) (step x e all.0, rest)
       by_test false e rest = subst (λ b. AllByRecursion P (map number (if b then x ∷ filter test xs else filter test xs))) (sym e) rest
 
-  passing_have : (P : ℕ → Type 0) (xs : List X) → AllByRecursion P (map number (filter test xs))
+  pub passing_have : (P : ℕ → Type 0) (xs : List X) → AllByRecursion P (map number (filter test xs))
       → AllByRecursion (λ x. test x ≡ true → P (number x)) xs
   passing_have P [] all = tt
   passing_have P (x ∷ xs) all = by_test (test x) refl all (passing_have P xs)
@@ -67,7 +67,7 @@ module _ {X : Type 0} (number : X → ℕ) (test : X → Bool) where
           let at = subst (λ b. AllByRecursion P (map number (if b then x ∷ filter test xs else filter test xs))) e h in
           (λ passes. absurd (cc), rest at)
 
-  none_pass : (xs : List X) → reduce min (map number (filter test xs)) ≡ None → AllByRecursion (λ x. test x ≡ false) xs
+  pub none_pass : (xs : List X) → reduce min (map number (filter test xs)) ≡ None → AllByRecursion (λ x. test x ≡ false) xs
   none_pass [] none = tt
   none_pass (x ∷ xs) none = by_test (test x) refl (none_pass xs)
     where

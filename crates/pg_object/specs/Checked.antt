@@ -1,0 +1,75 @@
+-- Which checks of pages an object keeps.
+use Rattle.std.specs.Prelude.{ℕ, ◌≡◌, ◌≢◌, ◌+◌, ◌/◌, ◌==◌, ◌≤◌, ◌&&◌, not, Bool, true, false, List, filter, find, None, is_some}
+use Rattle.pg_digest.specs.Kinds.{Hash}
+use Rattle.cs_policy.specs.declared.access.Access.{Access}
+use Rattle.cs_policy.specs.declared.access.Access.TheVariants.{Write, Execute}
+use Rattle.cs_policy.specs.declared.file.FileEvent.{FileEvent}
+use Rattle.cs_policy.specs.declared.file.FileEvent.TheVariants as event
+use Rattle.cs_policy.specs.declared.file.FileReply.{FileReply}
+use Rattle.cs_policy.specs.declared.file.FileReply.TheVariants as reply
+use Rattle.pg_cache.specs.Cache.{resident, resident_page}
+use Rattle.pg_cache.specs.Finds.{Finds}
+use Rattle.pg_pages.specs.Marks.{marks_of}
+use Rattle.pg_regions.specs.Lookups.{copy_of, is_shared}
+use Rattle.pg_plain.specs.Steps.{is_reached}
+use Rattle.pg_plain.specs.Content.{count_written}
+use Rattle.pg_plain.specs.Keep.{IsSealedNow}
+use Rattle.pg_object.specs.Object.{ObjectNow, seen}
+
+abbrev pub is_validated : ObjectNow → ℕ → Bool
+is_validated now page = is_some (marks_of now.pages.marks page).validated
+
+-- the resident pages that were found sealed and have not changed since, most recent first
+abbrev pub checked : ObjectNow → List ℕ
+checked now = filter (is_validated now) (resident now.pages.cache)
+
+-- the page is one of them
+abbrev pub is_checked : ObjectNow → ℕ → Bool
+is_checked now page = is_some (find (λ q. q == page) (checked now))
+
+abbrev pub is_resident : ObjectNow → ℕ → Bool
+is_resident now page = is_some (resident_page now.pages.cache page)
+
+-- Each page that is checked is resident and is sealed now by the signature that covers it.
+abbrev pub AreSealedNow : Hash → ObjectNow → Type 0
+AreSealedNow hash now = (pages : List (List ℕ)) → Finds now.pages.cache pages → (page : ℕ) → is_checked now page ≡ true
+    → (is_resident now page ≡ true) × IsSealedNow hash (seen now pages) page
+
+-- ---- what an event with its reply does to these pages
+
+-- it wrote a byte of the page, or gave it to a shared region to be written
+abbrev pub takes_out : ObjectNow → FileEvent → FileReply → ℕ → Bool
+takes_out old (event.Write at piece) answer page = is_reached old.pages.cache.pager.page_size at (count_written answer) page
+takes_out old (event.Enter id p Write flags resolve) (reply.Given left noted) page = (p == page) && is_shared old.regions.regions id
+takes_out old _ answer page = false
+
+-- the page that was asked for is given, and no rule was broken
+abbrev pub is_given : FileReply → Bool
+is_given (reply.Given left noted) = not (is_some noted)
+is_given _ = false
+
+-- it gave the page to be executed
+abbrev pub takes_in : FileEvent → FileReply → ℕ → Bool
+takes_in (event.Enter id p Execute flags resolve) answer page = (p == page) && is_given answer
+takes_in _ answer page = false
+
+-- Which pages are checked after an event.
+pub record KeepsChecked (old : ObjectNow) (e : FileEvent) (answer : FileReply) (new : ObjectNow) : Type 0 where
+  -- a page that was checked is so exactly where the event did not take it out and it is still resident
+  pub stays : (page : ℕ) → is_checked old page ≡ true → is_checked new page ≡ (not (takes_out old e answer page) && is_resident new page)
+  -- and one that was not is so only where the event took it in
+  pub comes : (page : ℕ) → is_checked old page ≡ false → is_checked new page ≡ true → takes_in e answer page ≡ true
+
+-- ---- a fault
+
+-- How often the digester is called, and which reads are made, at a fault.
+pub record IsLazy (old : ObjectNow) (id page : ℕ) (access : Access) (answer : FileReply) (new : ObjectNow) : Type 0 where
+  -- for an execution alone, and then at most once for each 4,096 bytes of the page
+  pub unhashed : access ≢ Execute → new.pages.calls ≡ old.pages.calls
+  pub few : new.pages.calls ≤ old.pages.calls + old.pages.cache.pager.page_size / 4096
+  -- not for a page that is checked
+  pub no_hash : is_checked old page ≡ true → new.pages.calls ≡ old.pages.calls
+  -- a page that is given to be executed, and breaks no rule, is checked then
+  pub kept : access ≡ Execute → copy_of old.regions.copies id page ≡ None → is_given answer ≡ true → is_checked new page ≡ true
+  -- a resident page is not read
+  pub no_read : is_resident old page ≡ true → new.pages.cache.pager.reads ≡ old.pages.cache.pager.reads

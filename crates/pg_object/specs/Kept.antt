@@ -1,0 +1,55 @@
+-- What is true of every object.
+use Rattle.std.specs.Prelude.{ℕ, ◌≡◌, ◌+◌, ◌%◌, ◌<◌, ◌≤◌, ◌^◌, List, length, Some, All}
+use Rattle.pg_digest.specs.Kinds.{Hash}
+use Rattle.pg_io.specs.MemPages.{pages_reached}
+use Rattle.cs_policy.specs.declared.layout.Layout.{Layout}
+use Rattle.cs_policy.specs.declared.layout.Layout.TheVariants as layout
+use Rattle.cs_policy.specs.declared.layout.SliceSeat.{SliceSeat}
+use Rattle.cs_policy.specs.declared.layout.SliceSeat.TheVariants as seat
+use Rattle.cs_policy.specs.declared.region.Region.{Region}
+use Rattle.cs_blob.specs.Signed.{IsSignature}
+use Rattle.pg_cache.specs.Cache.{IsSound}
+use Rattle.pg_cache.specs.Finds.{Finds}
+use Rattle.pg_pages.specs.Pages.{IsMarked}
+use Rattle.pg_regions.specs.RegionsNow as regions
+use Rattle.pg_plain.specs.PlainFile.{Attached}
+use Rattle.pg_plain.specs.Keep.{Keep}
+use Rattle.pg_object.specs.Object.{ObjectNow, seen}
+use Rattle.pg_object.specs.Seals.{AreSealed}
+
+-- a signed slice begins with a page of this size, and it and its signature lie within so many bytes
+abbrev pub IsSeated : ℕ → ℕ → SliceSeat → Type 0
+IsSeated size bytes (seat.Refused refusal) = Unit {0}
+IsSeated size bytes (seat.Signed slice sig) = (slice.at % size ≡ 0) × (slice.at + slice.len ≤ bytes) × (sig.at + sig.len ≤ bytes)
+
+-- the same of each slice of a layout, of which there are fewer than 2 ^ 32
+abbrev pub IsLaid : ℕ → ℕ → Layout → Type 0
+IsLaid size bytes (layout.Refused refusal) = Unit {0}
+IsLaid size bytes (layout.Slices seats) = (length seats < 2 ^ 32) × All (IsSeated size bytes) seats
+
+-- the region's pages are among so many
+abbrev pub IsInside : ℕ → Region → Type 0
+IsInside pages region = region.first + region.pages ≤ pages
+
+-- the signature is that which its bytes hold, for its slice and pages of this size
+abbrev pub IsSigned : Hash → ℕ → Attached → Type 0
+IsSigned hash size attached =
+    IsSignature hash attached.signature.bytes attached.signature.slice (Some size) attached.signature
+
+-- What is true of every object: the sealing, for all bytes that the pages may have, and what its parts keep.
+pub record IsKept (hash : Hash) (now : ObjectNow) : Type 0 where
+  pub keep : (pages : List (List ℕ)) → Finds now.pages.cache pages → Keep hash (seen now pages)
+  -- what the types of its parts keep
+  pub sound : IsSound now.pages.cache
+  pub marked : IsMarked hash now.pages.cache now.pages.marks
+  pub regions_sound : regions.IsSound now.regions
+  pub page : now.regions.page ≡ now.pages.cache.pager.page_size
+  -- what the marks say is what the signatures and the records say
+  pub seals : AreSealed now
+  -- the file has just the pages that its bytes reach, and its slices and regions lie within them
+  pub reached : now.pages.cache.pager.pages ≡ pages_reached now.pages.cache.pager.page_size now.length
+  pub laid : IsLaid now.pages.cache.pager.page_size now.length now.layout
+  pub inside : All (IsInside now.pages.cache.pager.pages) now.regions.regions
+  -- each attached signature is one of its slice, on a machine with pages of this size
+  pub signatures : All (IsSigned hash now.pages.cache.pager.page_size) now.blobs
+  pub few_blobs : length now.blobs ≤ 64

@@ -1,0 +1,13 @@
+pub mod Acts
+pub mod Checked
+pub mod Enters
+pub mod Kept
+pub mod Object
+pub mod Opened
+pub mod Reads
+pub mod Seals
+pub mod Strips
+pub mod Writes
+pub use Rattle.pg_plain.specs.Keep
+pub use Rattle.pg_plain.specs.PlainFile
+pub use Rattle.pg_plain.specs.Steps

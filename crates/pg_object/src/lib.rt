@@ -1,0 +1,25 @@
+//! One file with its signatures and mappings.
+#![tactic(auto)]
+
+mod access;
+mod blobs;
+mod compare;
+mod enter;
+mod evict;
+mod give;
+mod kept;
+mod object;
+mod opening;
+mod rules;
+mod signatures;
+mod take;
+mod write;
+
+pub use object::Object;
+pub use opening::Room;
+pub use std::alloc::AllocError as NoMemory;
+
+#[cfg(test)]
+mod trial;
+#[cfg(test)]
+mod tests;
