@@ -1,0 +1,11 @@
+pub mod WordFacts
+pub mod NumeralFacts
+pub mod HexFacts
+pub mod LineFacts
+pub mod PieceFacts
+pub mod NameFacts
+pub mod PlainFacts
+pub mod LimitFacts
+pub mod CutFacts
+pub mod ShortFacts
+pub mod NamedFacts

@@ -1,0 +1,9 @@
+pub mod Numbers
+pub mod Digits
+pub mod Names
+pub mod Lines
+pub mod Data
+pub mod Parts
+pub mod Words
+pub mod Cut
+pub mod Rows

@@ -1,0 +1,5 @@
+pub mod DraftFacts
+pub mod LoopFacts
+pub mod HeaderFacts
+pub mod CallFacts
+pub mod RoundFacts

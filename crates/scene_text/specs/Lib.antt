@@ -1,0 +1,12 @@
+pub mod Scenes
+pub mod Keywords
+pub mod Known
+pub mod Headers
+pub mod Calls
+pub mod Lines
+pub mod Texts
+pub mod Results
+pub mod Checks
+pub mod Mapped
+pub mod Drafts
+pub mod Printing
