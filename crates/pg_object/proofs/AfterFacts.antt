@@ -47,7 +47,7 @@ module _ (hash : Hash) (old : ObjectNow) (pages : PagesNow) (regions : RegionsNo
     page = page ∙ kept.page ∙ sym acts.sizes.page_size;
     seals = seals;
     reached = acts.sizes.pages ∙ kept.reached ∙ ap (λ s. pages_reached s old.length) (sym acts.sizes.page_size);
-    laid = subst (λ s. IsLaid s old.length old.layout) (sym acts.sizes.page_size) kept.laid;
+    laid = kept.laid;
     inside = subst (λ n. All (IsInside n) regions.regions) (sym acts.sizes.pages) (subst (All (IsInside old.pages.cache.pager.pages)) (sym same) kept.inside);
     signatures = subst (λ s. All (IsSigned hash s) old.blobs) (sym acts.sizes.page_size) kept.signatures;
     few_blobs = kept.few_blobs;

@@ -40,7 +40,7 @@ module _ (hash : Hash) (old : ObjectNow) (kept : IsKept hash old) (slice : ℕ) 
   unchanged : (answer : FileReply) → ((pages : List (List ℕ)) → (answer, seen old pages) ≡ add_blob_by same other (seen old pages) slice blob) → Adds answer old
   unchanged answer step =
       let quiet : Quiet hash old (event.AddBlob slice blob.cdhash read lookup) (Some blob) answer old =
-          record { same = refl; uncalled = λ pages. refl; step = step; room = room_stays old.regions; untaken = λ page. refl } in
+      record { same = refl; uncalled = λ pages. refl; step = step; room = room_stays old.regions; untaken = λ page. refl } in
       record {
         acts = acts_quietly hash old old (event.AddBlob slice blob.cdhash read lookup) (Some blob) answer kept quiet;
         checked = checked_quietly old old (event.AddBlob slice blob.cdhash read lookup) answer refl (λ page. refl);

@@ -65,7 +65,7 @@ first_found q f first (suc count) zero inside passes fails =
 first_found q f first (suc count) (suc place) inside passes fails =
     ap (λ b. if b then Some (f first) else find q (map f (range_with_len (first + 1) count))) (ap (λ n. q (f n)) {x = first} {y = first + 0} (omega arith) ∙ fails 0 (omega arith))
     ∙ first_found q f (first + 1) count place (omega arith) (ap (λ n. q (f n)) {x = first + 1 + place} {y = first + suc place} (omega arith) ∙ passes)
-        (λ k less. ap (λ n. q (f n)) {x = first + 1 + k} {y = first + suc k} (omega arith) ∙ fails (suc k) (omega arith))
+    (λ k less. ap (λ n. q (f n)) {x = first + 1 + k} {y = first + suc k} (omega arith) ∙ fails (suc k) (omega arith))
     ∙ ap (λ n. Some (f n)) {x = first + 1 + place} {y = first + suc place} (omega arith)
 
 -- ---- a page
@@ -120,8 +120,10 @@ module _ (hash : Hash) (size : ℕ) (blob : Signature) (page : ℕ) (bytes : Lis
     where
       each : (first n : ℕ) → ((k : ℕ) → k < n → Matches hash blob (part size blob page bytes (first + k))) → AllByRecursion (Matches hash blob) (map (part size blob page bytes) (range_with_len first n))
       each first zero all = tt
-      each first (suc n) all = (subst (λ m. Matches hash blob (part size blob page bytes m)) {x = first + 0} {y = first} (omega arith) (all 0 (omega arith)),
-          each (first + 1) n (λ k inside. subst (λ m. Matches hash blob (part size blob page bytes m)) {x = first + suc k} {y = first + 1 + k} (omega arith) (all (suc k) (omega arith))))
+      each first (suc n) all = (
+        subst (λ m. Matches hash blob (part size blob page bytes m)) {x = first + 0} {y = first} (omega arith) (all 0 (omega arith)),
+        each (first + 1) n (λ k inside. subst (λ m. Matches hash blob (part size blob page bytes m)) {x = first + suc k} {y = first + 1 + k} (omega arith) (all (suc k) (omega arith))),
+      )
 
   pub sealed_none : IsSealed hash (seal_for size blob page) bytes → difference hash size blob page bytes ≡ None
   sealed_none is_sealed =

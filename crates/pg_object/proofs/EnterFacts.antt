@@ -150,16 +150,16 @@ module _ (hash : Hash) (old : ObjectNow) (kept : IsKept hash old) (id page : ℕ
       same = refl;
       uncalled = λ pages. calls_are pages
           ∙ ap (λ b. if (b && is_some (verdict_without_bytes (seen old pages) region page access)) || not (needs_read (seen old pages) region page) then []
-            else page ∷ (if is_denied_read hash (seen old pages) region page access flags then [] else victim_calls (victim (seen old pages) page))) under
+          else page ∷ (if is_denied_read hash (seen old pages) region page access flags then [] else victim_calls (victim (seen old pages) page))) under
           ∙ ap (λ o. if (true && is_some o) || not (needs_read (seen old pages) region page) then []
-            else page ∷ (if is_denied_read hash (seen old pages) region page access flags then [] else victim_calls (victim (seen old pages) page))) (sym rule ∙ is);
+          else page ∷ (if is_denied_read hash (seen old pages) region page access flags then [] else victim_calls (victim (seen old pages) page))) (sym rule ∙ is);
       step = λ pages. sym (step_is pages 0
           ∙ ap (λ b. enter_page hash (seen old pages) region page access b 0) under
           ∙ ap (λ o. denied_or o (seen old pages)
-            (failed_or (read_fails (seen old pages) region page 0) page (seen old pages)
-            (denied_or (rule_of_bytes hash (seen old pages) page access) (seen old pages)
-            (failed_or (write_fails (seen old pages) region page 0) (unwrap_or (left_for (seen old pages) page) page) (seen old pages)
-            (give (seen old pages) region page access true None))))) (sym rule ∙ is));
+          (failed_or (read_fails (seen old pages) region page 0) page (seen old pages)
+          (denied_or (rule_of_bytes hash (seen old pages) page access) (seen old pages)
+          (failed_or (write_fails (seen old pages) region page 0) (unwrap_or (left_for (seen old pages) page) page) (seen old pages)
+          (give (seen old pages) region page access true None))))) (sym rule ∙ is));
       room = room_nothing;
       untaken = untaken_denied denial;
     })
@@ -263,7 +263,7 @@ module _ (hash : Hash) (old : ObjectNow) (kept : IsKept hash old) (id page : ℕ
           by_access Write e = or_none (verdict_without_bytes (seen old []) region page Write) ∙ sym e
           by_access Execute e =
               let unread : verdict_without_bytes (seen old []) region page Execute ≡ Some (PrivateCopy page) =
-                  ap (λ o. option_or o (option_or (unsigned (seen old []) page) (option_or (beyond_limit (seen old []) page) (option_or (writable_shared (seen old []) page) None)))) copied_rule in
+              ap (λ o. option_or o (option_or (unsigned (seen old []) page) (option_or (beyond_limit (seen old []) page) (option_or (writable_shared (seen old []) page) None)))) copied_rule in
               ap (λ o. option_or o (rule_of_bytes hash (seen old content) page Execute)) unread ∙ sym (e ∙ unread)
 
       second_none : (one other : Option Denial) → option_or one other ≡ None → other ≡ None
@@ -367,9 +367,11 @@ module _ (hash : Hash) (old : ObjectNow) (kept : IsKept hash old) (id page : ℕ
           by_blob (Some b) (Ok (Some d)) f g e = absurd (none_some s e)
           by_blob (Some b) (Ok None) f g e =
               let is = against_some old page kept.regions_sound region access broken b rule (sym held_against ∙ f) in
-              let one : seal_for old.pages.cache.pager.page_size b page ≡ s = same e in
-              (subst (λ (o : Option Attached). IsSomeAnd o (λ attached. IsTrue (is_below_limit old.pages.cache.pager.page_size attached.signature page) × (s ≡ seal_for old.pages.cache.pager.page_size attached.signature page))) (sym is.cover)
-              (grind (arith, common_steps, is.below), sym (ap (λ c. seal_for old.pages.cache.pager.page_size c page) is.own ∙ one)), (is.executes, (g, is.unwritten)))
+              let one : seal_for old.pages.cache.pager.page_size b page ≡ s = same e in (
+                subst (λ (o : Option Attached). IsSomeAnd o (λ attached. IsTrue (is_below_limit old.pages.cache.pager.page_size attached.signature page) × (s ≡ seal_for old.pages.cache.pager.page_size attached.signature page))) (sym is.cover)
+                    (grind (arith, common_steps, is.below), sym (ap (λ c. seal_for old.pages.cache.pager.page_size c page) is.own ∙ one)),
+                (is.executes, (g, is.unwritten)),
+              )
             where
               same : Some (seal_for old.pages.cache.pager.page_size b page) ≡ Some s → seal_for old.pages.cache.pager.page_size b page ≡ s
               same e = cc
@@ -394,10 +396,11 @@ module _ (hash : Hash) (old : ObjectNow) (kept : IsKept hash old) (id page : ℕ
           by_blob : (b : Option Signature) → blob ≡ b → Counts old.pages.cache.pager.page_size b old.pages page noted seen_pages
               → (access ≢ Execute → seen_pages.calls ≡ old.pages.calls) × (seen_pages.calls ≤ old.pages.calls + old.pages.cache.pager.page_size / 4096) × (is_checked old page ≡ true → seen_pages.calls ≡ old.pages.calls)
           by_blob None f counts = (λ other. counts, omega arith, λ there. counts)
-          by_blob (Some b) f counts =
-              (λ other. absurd (other (against_some old page kept.regions_sound region access broken b rule (sym held_against ∙ f)).executes),
-              (let few = counts.few in let less = each_hash_page (λ h. old.pages.cache.pager.page_size / h ≤ old.pages.cache.pager.page_size / 4096) b (omega arith) (omega arith) in omega arith),
-              λ there. (checked_lazy there b f).1)
+          by_blob (Some b) f counts = (
+            λ other. absurd (other (against_some old page kept.regions_sound region access broken b rule (sym held_against ∙ f)).executes),
+            (let few = counts.few in let less = each_hash_page (λ h. old.pages.cache.pager.page_size / h ≤ old.pages.cache.pager.page_size / 4096) b (omega arith) (omega arith) in omega arith),
+            λ there. (checked_lazy there b f).1,
+          )
 
       leaves_of : (b : Bool) → is_err noted ≡ b → PeekLeaves old.pages.cache page b seen_pages.cache
       leaves_of b e = subst (λ c. PeekLeaves old.pages.cache page c seen_pages.cache) e looks.leaves
@@ -598,7 +601,7 @@ module _ (hash : Hash) (old : ObjectNow) (kept : IsKept hash old) (id page : ℕ
               by_access Write = refl
               by_access Execute = says_cover (cover_of old page)
                   ∙ ap (λ b. option_map_or (λ attached. option_map (λ p. Mismatch page p.slot (hash attached.signature.best.kind p.bytes) p.wanted)
-                    (find (differs hash attached.signature) (parts old.pages.cache.pager.page_size attached.signature page b))) (cover_of old page) None) (sym own_bytes)
+                  (find (differs hash attached.signature) (parts old.pages.cache.pager.page_size attached.signature page b))) (cover_of old page) None) (sym own_bytes)
 
           told_verdict : option_or broken told ≡ verdict hash (seen old found_pages) region page access
           told_verdict = by_broken broken refl
@@ -821,7 +824,7 @@ module _ (hash : Hash) (old : ObjectNow) (kept : IsKept hash old) (id page : ℕ
                   by_held (Some h) e =
                       ap (λ o. cache.leaver_by o (cache.victim seen_pages.cache)) e
                       ∙ sym (ap (λ b. option_map (λ (r : Resident). r.page) (if b then None else slice_get (map resident_of old.pages.cache.held) (old.pages.cache.limit - 1)))
-                        (resident_is old found_pages page ∙ sym seen_resident ∙ ap is_some e))
+                      (resident_is old found_pages page ∙ sym seen_resident ∙ ap is_some e))
 
               gone_records : (o : Option Resident) → records_gone old.regions (option_map (λ (r : Resident). r.page) o) ≡ records_left (seen old found_pages) o
               gone_records None = refl

@@ -37,7 +37,6 @@ use Rattle.pg_object.proofs.SameFacts.{plain_is, left_residents, unchanged_seen,
 use Rattle.pg_object.proofs.QuietFacts.{Does, Fewer, room_stays, room_kept}
 use Rattle.pg_object.proofs.SealFacts.{with_parts, Same, Gone, Fates, does_parts, fewer_same}
 
-
 -- ---- the pager calls
 
 -- the write of a dirty page, if it is one

@@ -156,7 +156,7 @@ module _ (hash : Hash) (old : PagesNow) (page : ℕ) (listed : IsListed old.cach
         (λ f. inl ((ready_less q).validated s (sym (ap (λ (m : Marks). m.validated) (marked_other (sealed seal) page ready q f)) ∙ e)));
     writable = λ q e. both_cases (q == page)
         (λ f. let same : q ≡ page = grind (arith, common_steps, f) in
-            (ready_less q).writable (ap (λ p. (marks_of ready p).writable) same ∙ sym (ap (λ (m : Marks). m.writable) (marked_here (sealed seal) page ready ready_long)) ∙ ap (λ p. (marks_of (sealed_at seal page ready) p).writable) (sym same) ∙ e))
+        (ready_less q).writable (ap (λ p. (marks_of ready p).writable) same ∙ sym (ap (λ (m : Marks). m.writable) (marked_here (sealed seal) page ready ready_long)) ∙ ap (λ p. (marks_of (sealed_at seal page ready) p).writable) (sym same) ∙ e))
         (λ f. (ready_less q).writable (sym (ap (λ (m : Marks). m.writable) (marked_other (sealed seal) page ready q f)) ∙ e));
     others = λ q apart resident. ap (λ (m : Marks). m.validated) (marked_other (sealed seal) page ready q apart) ∙ ready_still q resident;
     here = λ s e. validated ∙ e;
@@ -246,7 +246,7 @@ module _ (hash : Hash) (old seen new : PagesNow) (page : ℕ) (seal : Option Sea
       by_left None e = refl
       by_left (Some v) e = both_cases (v == page)
           (λ f. let same : v ≡ page = grind (arith, common_steps, f) in let facts = left_resident v e in
-              absurd (grind (arith, common_steps, facts.0, sym (ap (λ n. is_some (resident_page seen.cache n)) same) ∙ facts.1)))
+          absurd (grind (arith, common_steps, facts.0, sym (ap (λ n. is_some (resident_page seen.cache n)) same) ∙ facts.1)))
           (λ f. f)
 
   resident_new : (q : ℕ) → (q == page) ≡ false → is_some (resident_page new.cache q) ≡ is_some (if has_left (leaver seen.cache page) q then None else resident_page seen.cache q)
@@ -280,7 +280,7 @@ module _ (hash : Hash) (old seen new : PagesNow) (page : ℕ) (seal : Option Sea
           absurd (grind (arith, common_steps, absent, ap (λ n. is_some (resident_page new.cache n)) same ∙ gives.found.here))
       gone_of q was absent false e =
           let left : has_left (leaver seen.cache page) q ≡ true = both_cases (has_left (leaver seen.cache page) q) (λ f. f)
-              (λ f. absurd (grind (arith, common_steps, absent, resident_new q e ∙ ap (λ b. is_some (if b then None else resident_page seen.cache q)) f ∙ still_resident q ∙ was))) in
+          (λ f. absurd (grind (arith, common_steps, absent, resident_new q e ∙ ap (λ b. is_some (if b then None else resident_page seen.cache q)) f ∙ still_resident q ∙ was))) in
           let one = left_of (leaver seen.cache page) q left in
           let facts = left_resident q one in
           ap (λ ms. (marks_of ms q).writable) (marks_are false facts.0)

@@ -65,10 +65,10 @@ module _ (file : PlainFile) (old : RegionsNow) (region : Region) (page : ℕ) (g
           let test : is_some (bytes_of mid.copies region.id page) ≡ b = ap (λ (f : ℕ → ℕ → Option (List ℕ)). is_some (f region.id page)) (granted_copies mid Write grants) ∙ e in
           let records = ap (λ (now : RegionsNow). record_of now.records) copies.others ∙ granted_records mid Write grants in
           let now : bytes_of new.copies ≡ (λ i p. if b then file.copies i p else put_at region.id page (page_of file page) file.copies i p) =
-              fun_ext (λ i. fun_ext (λ p. copies.copies i p
-                  ∙ ap (λ c. if c then bytes_of mid.copies i p else put_at region.id page bytes (bytes_of mid.copies) i p) test
-                  ∙ ap (λ (f : ℕ → ℕ → Option (List ℕ)). if b then f i p else put_at region.id page bytes f i p) (granted_copies mid Write grants)
-                  ∙ swap b e i p)) in
+          fun_ext (λ i. fun_ext (λ p. copies.copies i p
+          ∙ ap (λ c. if c then bytes_of mid.copies i p else put_at region.id page bytes (bytes_of mid.copies) i p) test
+          ∙ ap (λ (f : ℕ → ℕ → Option (List ℕ)). if b then f i p else put_at region.id page bytes f i p) (granted_copies mid Write grants)
+          ∙ swap b e i p)) in
           ap (λ rs. record file { records = rs; copies = bytes_of new.copies }) records
           ∙ ap (λ cs. record (granted region page Write guarded file) { copies = cs }) now
           ∙ by_bool b
@@ -88,7 +88,7 @@ module _ (file : PlainFile) (old : RegionsNow) (region : Region) (page : ℕ) (g
       by_shared true e strips =
           let copies = ap (λ (now : RegionsNow). bytes_of now.copies) strips.others ∙ granted_copies mid Write grants in
           let records : record_of new.records ≡ (stripped page (granted region page Write guarded file)).records =
-              fun_ext (λ i. fun_ext (λ p. strips.records i p ∙ ap (λ (f : ℕ → ℕ → Option Record). if p == page then option_map unexecuted (f i p) else f i p) (granted_records mid Write grants))) in
+          fun_ext (λ i. fun_ext (λ p. strips.records i p ∙ ap (λ (f : ℕ → ℕ → Option Record). if p == page then option_map unexecuted (f i p) else f i p) (granted_records mid Write grants))) in
           ap (λ rs. record file { records = rs; copies = bytes_of new.copies }) records
           ∙ ap (λ cs. record file { records = (stripped page (granted region page Write guarded file)).records; copies = cs }) copies
           ∙ ap (λ b. if b then stripped page (granted region page Write guarded file) else copied region page (granted region page Write guarded file)) (sym e)

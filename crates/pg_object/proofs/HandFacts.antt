@@ -41,8 +41,10 @@ module _ (hash : Hash) (old : ObjectNow) (kept : IsKept hash old) (id page : ℕ
   pub copy_at_hand : is_some (bytes_of old.regions.copies id page) ≡ true → IsAtHand old.pages.cache old.regions region page
   copy_at_hand copy =
       let keep = kept.keep (some_pages old.pages.cache) (some_finds old.pages.cache kept.sound) in
-      inl ((subst (λ (o : Option Region). IsSomeAnd o (λ r. IsTrue (has_page page r) × (r.shared ≡ false))) found.0 (keep.private_copies id page copy)).1,
-      by_copy (copy_of old.regions.copies region.id page) (ap (λ i. is_some (bytes_of old.regions.copies i page)) own_id ∙ copy))
+      inl (
+        (subst (λ (o : Option Region). IsSomeAnd o (λ r. IsTrue (has_page page r) × (r.shared ≡ false))) found.0 (keep.private_copies id page copy)).1,
+        by_copy (copy_of old.regions.copies region.id page) (ap (λ i. is_some (bytes_of old.regions.copies i page)) own_id ∙ copy),
+      )
     where
       by_copy : (o : Option Copy) → is_some (option_map (λ (c : Copy). c.bytes) o) ≡ true → IsSome o
       by_copy None e = absurd (grind (arith, common_steps, e))

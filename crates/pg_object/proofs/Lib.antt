@@ -2,6 +2,7 @@ pub mod AccessFacts
 pub mod AfterFacts
 pub mod AttachFacts
 pub mod CheckedFacts
+pub mod CheckedLaws
 pub mod CompareFacts
 pub mod ContentFacts
 pub mod EnterFacts

@@ -56,7 +56,7 @@ module _ (hash : Hash) (pages now : PagesNow) (length : ℕ) (layout : Layout) (
   }
 
   keeps : IsSound pages.cache → IsMarked hash now.cache now.marks → regions.IsSound (empty pages.cache.pager.page_size room.regions room.records room.copies)
-      → pages.cache.pager.pages ≡ pages_reached pages.cache.pager.page_size length → IsLaid pages.cache.pager.page_size length layout → IsKept hash object
+      → pages.cache.pager.pages ≡ pages_reached pages.cache.pager.page_size length → IsLaid length layout → IsKept hash object
   keeps sound marked standing reached laid = record {
     keep = λ content found. subst (Keep hash) (sym (plain content))
         (law hash pages.cache.pager.page_size length pages.cache.limit content layout sound.listed.some);
@@ -70,7 +70,7 @@ module _ (hash : Hash) (pages now : PagesNow) (length : ℕ) (layout : Layout) (
       unwritten = λ page id writer. ap (λ (m : Marks). m.validated) (unmarked marked page);
     };
     reached = subst (λ (c : CacheNow). c.pager.pages ≡ pages_reached c.pager.page_size length) (sym same_cache) reached;
-    laid = subst (λ (c : CacheNow). IsLaid c.pager.page_size length layout) (sym same_cache) laid;
+    laid = laid;
     inside = All-nil (IsInside now.cache.pager.pages);
     signatures = All-nil (IsSigned hash now.cache.pager.page_size);
     few_blobs = omega arith;
@@ -88,7 +88,7 @@ module _ (hash : Hash) (pages now : PagesNow) (length : ℕ) (layout : Layout) (
     is_opened = subst (IsOpened pages length layout room) (sym object_is) opens
 
     pub is_kept : IsSound pages.cache → IsMarked hash now.cache now.marks → regions.IsSound stand → pages.cache.pager.pages ≡ pages_reached pages.cache.pager.page_size length
-        → IsLaid pages.cache.pager.page_size length layout → IsKept hash (object_of now stand blobs length layout)
+        → IsLaid length layout → IsKept hash (object_of now stand blobs length layout)
     is_kept sound marked standing reached laid =
         subst (IsKept hash) (sym object_is) (keeps sound marked
         (subst regions.IsSound (empty_regions ∙ ap (λ n. empty n room.regions room.records room.copies) same) standing) reached laid)

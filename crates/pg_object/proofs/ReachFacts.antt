@@ -81,14 +81,16 @@ step_of s at len page q known reaches = each_size (λ s. Reaches s at len page �
       λ (a, b, c) apart. (omega arith, omega arith, omega arith),
       λ (a, b, c). (omega arith, omega arith, omega arith),
       (omega arith, omega arith, omega arith),
-      λ (a, b, c). omega arith)
+      λ (a, b, c). omega arith,
+    )
 
     large : Reaches 16384 at len page → Step 16384 at len page q
     large (some, ends, begins) = (
       λ (a, b, c) apart. (omega arith, omega arith, omega arith),
       λ (a, b, c). (omega arith, omega arith, omega arith),
       (omega arith, omega arith, omega arith),
-      λ (a, b, c). omega arith)
+      λ (a, b, c). omega arith,
+    )
 
 -- a page is reached by the data before the next page where it is by the data before this one, or is this one
 module _ (size at : ℕ) (bytes : List ℕ) (page : ℕ) (known : IsTrue (is_page_size size)) (reaches : Reaches size at (length bytes) page) where

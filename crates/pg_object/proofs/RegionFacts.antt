@@ -116,14 +116,14 @@ seen_without : (old : ObjectNow) (regions : RegionsNow) (goes : Region → Bool)
 seen_without old regions goes pages gone left same found =
     ap (λ standing. record (seen old pages) { regions = standing; records = record_of regions.records; copies = bytes_of regions.copies }) left
     ∙ ap (λ records. record (seen old pages) { regions = filter (λ region. not (goes region)) old.regions.regions; records = records; copies = bytes_of regions.copies })
-        (fun_ext (λ i. fun_ext (λ page. found.records i page ∙ ap (λ b. if b then None else record_of old.regions.records i page) (sym (same i)))))
+    (fun_ext (λ i. fun_ext (λ page. found.records i page ∙ ap (λ b. if b then None else record_of old.regions.records i page) (sym (same i)))))
     ∙ ap (λ copies. record (seen old pages) {
-        regions = filter (λ region. not (goes region)) old.regions.regions;
-        records = λ i page. if is_gone goes (seen old pages) i then None else record_of old.regions.records i page;
-        copies = copies;
-      })
-      (fun_ext (λ i. fun_ext (λ page. bytes_unless (gone i) (copy_of old.regions.copies i page) (copy_of regions.copies i page) (found.copies i page)
-          ∙ ap (λ b. if b then None else bytes_of old.regions.copies i page) (sym (same i)))))
+      regions = filter (λ region. not (goes region)) old.regions.regions;
+      records = λ i page. if is_gone goes (seen old pages) i then None else record_of old.regions.records i page;
+      copies = copies;
+    })
+    (fun_ext (λ i. fun_ext (λ page. bytes_unless (gone i) (copy_of old.regions.copies i page) (copy_of regions.copies i page) (found.copies i page)
+    ∙ ap (λ b. if b then None else bytes_of old.regions.copies i page) (sym (same i)))))
 
 -- a writer that is left was one
 writes_left : (gone : ℕ → Bool) (old regions : RegionsNow) → AreGone gone old regions → (page id : ℕ) → IsWriter regions.regions regions.records page id → IsWriter old.regions old.records page id

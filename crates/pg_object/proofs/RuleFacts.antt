@@ -130,8 +130,8 @@ pub rules_past : (now : ObjectNow) (page : ℕ) (attached : Attached) (o : Optio
 rules_past now page attached o cover below is =
     let first : unsigned (seen now []) page ≡ None = ap (λ c. if is_some c then None else Some (Unsigned page)) cover in
     let second : beyond_limit (seen now []) page ≡ None =
-        ap (λ c. option_map_or (λ (a : Attached). if is_below_limit now.pages.cache.pager.page_size a.signature page then None else Some (BeyondLimit page)) c None) cover
-        ∙ ap (λ b. if b then None else Some (BeyondLimit page)) below in
+    ap (λ c. option_map_or (λ (a : Attached). if is_below_limit now.pages.cache.pager.page_size a.signature page then None else Some (BeyondLimit page)) c None) cover
+    ∙ ap (λ b. if b then None else Some (BeyondLimit page)) below in
     sym (ap (λ o. option_or o (option_or (beyond_limit (seen now []) page) (option_or (writable_shared (seen now []) page) None))) first
     ∙ ap (λ o. option_or o (option_or (writable_shared (seen now []) page) None)) second
     ∙ or_none (writable_shared (seen now []) page)
@@ -143,8 +143,8 @@ pub rules_beyond : (now : ObjectNow) (page : ℕ) (attached : Attached) → cove
 rules_beyond now page attached cover beyond =
     let first : unsigned (seen now []) page ≡ None = ap (λ c. if is_some c then None else Some (Unsigned page)) cover in
     let second : beyond_limit (seen now []) page ≡ Some (BeyondLimit page) =
-        ap (λ c. option_map_or (λ (a : Attached). if is_below_limit now.pages.cache.pager.page_size a.signature page then None else Some (BeyondLimit page)) c None) cover
-        ∙ ap (λ b. if b then None else Some (BeyondLimit page)) beyond in
+    ap (λ c. option_map_or (λ (a : Attached). if is_below_limit now.pages.cache.pager.page_size a.signature page then None else Some (BeyondLimit page)) c None) cover
+    ∙ ap (λ b. if b then None else Some (BeyondLimit page)) beyond in
     sym (ap (λ o. option_or o (option_or (beyond_limit (seen now []) page) (option_or (writable_shared (seen now []) page) None))) first
     ∙ ap (λ o. option_or o (option_or (writable_shared (seen now []) page) None)) second)
 

@@ -127,7 +127,7 @@ does_parts hash old now regions e answer kept acts sound marked counted fates fe
     page = fewer.page ∙ kept.page ∙ sym acts.sizes.page_size;
     seals = fates_sealed old (with_parts old now regions) fates kept.seals acts.sizes.page_size refl fewer.writers;
     reached = acts.sizes.pages ∙ kept.reached ∙ ap (λ n. pages_reached n old.length) (sym acts.sizes.page_size);
-    laid = subst (λ n. IsLaid n old.length old.layout) (sym acts.sizes.page_size) kept.laid;
+    laid = kept.laid;
     inside = subst (λ n. All (IsInside n) regions.regions) (sym acts.sizes.pages) fewer.inside;
     signatures = subst (λ n. All (IsSigned hash n) old.blobs) (sym acts.sizes.page_size) kept.signatures;
     few_blobs = kept.few_blobs;

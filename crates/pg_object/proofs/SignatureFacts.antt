@@ -67,9 +67,11 @@ more_unread cache at page first zero = ([], ap (unread_before cache at) {x = pag
     append_nil (x ∷ xs) = ap (λ (l : List ℕ). x ∷ l) (append_nil xs)
 more_unread cache at page first (suc n) =
     let before = more_unread cache at page first n in
-    let here = unread (is_some (resident_page cache (page + n))) (page + n) in
-    (before.0 ++ here, ap (unread_before cache at) {x = page + suc n} {y = page + n + 1} (omega arith) ∙ unread_next cache at (page + n) (omega arith)
-    ∙ ap (λ (l : List ℕ). l ++ here) before.1 ∙ append_assoc (unread_before cache at page) before.0 here)
+    let here = unread (is_some (resident_page cache (page + n))) (page + n) in (
+      before.0 ++ here,
+      ap (unread_before cache at) {x = page + suc n} {y = page + n + 1} (omega arith) ∙ unread_next cache at (page + n) (omega arith)
+          ∙ ap (λ (l : List ℕ). l ++ here) before.1 ∙ append_assoc (unread_before cache at page) before.0 here,
+    )
 
 get_middle : (xs : List ℕ) (x : ℕ) (rest : List ℕ) → slice_get ((xs ++ x ∷ []) ++ rest) (length xs) ≡ Some x
 get_middle [] x rest = refl
@@ -80,11 +82,11 @@ unread_at : (cache : CacheNow) (at page end : ℕ) → at / cache.pager.page_siz
 unread_at cache at page end first last absent =
     let more = more_unread cache at (page + 1) (omega arith) (end - (page + 1)) in
     let here : unread_before cache at (page + 1) ≡ unread_before cache at page ++ page ∷ [] =
-        unread_next cache at page first ∙ ap (λ (o : Option Held). unread_before cache at page ++ unread (is_some o) page) absent in
+    unread_next cache at page first ∙ ap (λ (o : Option Held). unread_before cache at page ++ unread (is_some o) page) absent in
     let all : unread_before cache at end ≡ (unread_before cache at page ++ page ∷ []) ++ more.0 =
-        ap (unread_before cache at) {x = end} {y = page + 1 + (end - (page + 1))} (omega arith) ∙ more.1 ∙ ap (λ (l : List ℕ). l ++ more.0) here in
+    ap (unread_before cache at) {x = end} {y = page + 1 + (end - (page + 1))} (omega arith) ∙ more.1 ∙ ap (λ (l : List ℕ). l ++ more.0) here in
     let long : length (unread_before cache at end) ≡ length (unread_before cache at page) + 1 + length more.0 =
-        ap length all ∙ length-append (unread_before cache at page ++ page ∷ []) more.0 ∙ ap (λ n. n + length more.0) (length-append (unread_before cache at page) (page ∷ [])) in
+    ap length all ∙ length-append (unread_before cache at page ++ page ∷ []) more.0 ∙ ap (λ n. n + length more.0) (length-append (unread_before cache at page) (page ∷ [])) in
     (ap (λ (l : List ℕ). slice_get l (length (unread_before cache at page))) all ∙ get_middle (unread_before cache at page) page more.0, omega arith)
 
 -- ---- the call

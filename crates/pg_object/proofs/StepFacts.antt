@@ -68,7 +68,6 @@ iff false false there back = refl
 whole_numbers : (p size at len m : ℕ) → 0 < size → p < at + len → m ≡ min (p + size - (at + (p - at))) (len - (p - at)) → (nat_le at p && nat_le (p + size) (at + len)) ≡ nat_le size m
 whole_numbers p size at len m some begins e = iff (nat_le at p && nat_le (p + size) (at + len)) (nat_le size m) (λ f. grind (arith, common_steps, f, e)) (λ f. grind (arith, common_steps, f, e, some, begins))
 
-
 module _ (size at : ℕ) (bytes : List ℕ) (page : ℕ) (known : IsTrue (is_page_size size)) (reaches : Reaches size at (length bytes) page) where
   abbrev before : List ℕ
   before = part_before size at bytes page
@@ -292,8 +291,8 @@ module _ (hash : Hash) (old mid new : PagesNow) (at : ℕ) (bytes : List ℕ) (p
         made =
             let on = resident_on mid.cache so_far.wrote.sizes so_far.wrote.resident in
             let count : length (calls_before old.cache at (length bytes) (page + 1)) ≡ length (calls_before old.cache at (length bytes) page) + (made.before + 1) =
-                ap length (calls_next old.cache at (length bytes) page later) ∙ length-append (calls_before old.cache at (length bytes) page) (calls_on old.cache at (length bytes) page)
-                ∙ ap (λ n. length (calls_before old.cache at (length bytes) page) + n) (ap length (sym on) ∙ made.all refl ∙ omega arith) in
+            ap length (calls_next old.cache at (length bytes) page later) ∙ length-append (calls_before old.cache at (length bytes) page) (calls_on old.cache at (length bytes) page)
+            ∙ ap (λ n. length (calls_before old.cache at (length bytes) page) + n) (ap length (sym on) ∙ made.all refl ∙ omega arith) in
             subst (λ l. MadeCalls old.cache.pager l new.cache.pager)
             (ap (λ l. replicate (length (calls_before old.cache at (length bytes) page)) false ++ l) (replicate-append-replicate made.before 1 false)
             ∙ replicate-append-replicate (length (calls_before old.cache at (length bytes) page)) (made.before + 1) false ∙ ap (λ n. replicate n false) (sym count))

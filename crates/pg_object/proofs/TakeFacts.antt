@@ -106,7 +106,7 @@ pub brought_list : (old seen new : CacheNow) (page : ℕ) → seen.held ≡ old.
 brought_list old seen new page held limit list =
     sym (plain_residents new.held) ∙ ap (map plain) list
     ∙ ap (λ rest. record { page = page; dirty = is_dirty seen page } ∷ rest)
-        (plain_take (seen.limit - 1) (other_residents page (cache.residents seen)) ∙ ap (take (seen.limit - 1)) (plain_others page (cache.residents seen) ∙ ap (without_page page) (plain_residents seen.held)))
+    (plain_take (seen.limit - 1) (other_residents page (cache.residents seen)) ∙ ap (take (seen.limit - 1)) (plain_others page (cache.residents seen) ∙ ap (without_page page) (plain_residents seen.held)))
     ∙ ap (λ first. first ∷ take (seen.limit - 1) (without_page page (map resident_of seen.held))) (front_is seen page)
     ∙ ap (λ (l : List Held). unwrap_or (find (is_page page) (map resident_of l)) (record { page = page; dirty = false }) ∷ take (seen.limit - 1) (without_page page (map resident_of l))) held
     ∙ ap (λ n. unwrap_or (find (is_page page) (map resident_of old.held)) (record { page = page; dirty = false }) ∷ take (n - 1) (without_page page (map resident_of old.held))) limit

@@ -68,9 +68,9 @@ pub reached_all : (size at count page : ℕ) → IsTrue (is_page_size size) → 
 reached_all size at zero page known = iff (is_reached size at 0 page) (nat_le (at / size) page && nat_lt page (at / size)) (λ e. absurd (grind (arith, common_steps, e))) (λ e. absurd (grind (arith, common_steps, e)))
 reached_all size at (suc count) page known = iff (is_reached size at (suc count) page) (nat_le (at / size) page && nat_lt page ((at + (suc count - 1)) / size + 1))
     (λ e. each_size (λ s. Reaches s at (suc count) page → (nat_le (at / s) page && nat_lt page ((at + (suc count - 1)) / s + 1)) ≡ true) size known
-        (λ r. grind (arith, common_steps, r.1, r.2)) (λ r. grind (arith, common_steps, r.1, r.2)) (reached_true size at (suc count) page known e))
+    (λ r. grind (arith, common_steps, r.1, r.2)) (λ r. grind (arith, common_steps, r.1, r.2)) (reached_true size at (suc count) page known e))
     (λ e. reached_from size at (suc count) page known (each_size (λ s. (nat_le (at / s) page && nat_lt page ((at + (suc count - 1)) / s + 1)) ≡ true → Reaches s at (suc count) page) size known
-        (λ f. (omega arith, grind (arith, common_steps, f), grind (arith, common_steps, f))) (λ f. (omega arith, grind (arith, common_steps, f), grind (arith, common_steps, f))) e))
+    (λ f. (omega arith, grind (arith, common_steps, f), grind (arith, common_steps, f))) (λ f. (omega arith, grind (arith, common_steps, f), grind (arith, common_steps, f))) e))
 
 -- the pages that the data before a page reach
 pub reached_before : (size at : ℕ) (bytes : List ℕ) (stop page : ℕ) → IsTrue (is_page_size size) → Reaches size at (length bytes) stop
@@ -79,9 +79,9 @@ reached_before size at bytes stop page known reaches =
     ap (λ n. is_reached size at n page) (long_before size at bytes stop known reaches)
     ∙ iff (is_reached size at (stop * size - at) page) (nat_le (at / size) page && nat_lt page stop)
     (λ e. each_size (λ s. Reaches s at (length bytes) stop → Reaches s at (stop * s - at) page → (nat_le (at / s) page && nat_lt page stop) ≡ true) size known
-        (λ t r. grind (arith, common_steps, r.1, r.2, r.0)) (λ t r. grind (arith, common_steps, r.1, r.2, r.0)) reaches (reached_true size at (stop * size - at) page known e))
+    (λ t r. grind (arith, common_steps, r.1, r.2, r.0)) (λ t r. grind (arith, common_steps, r.1, r.2, r.0)) reaches (reached_true size at (stop * size - at) page known e))
     (λ e. reached_from size at (stop * size - at) page known (each_size (λ s. Reaches s at (length bytes) stop → (nat_le (at / s) page && nat_lt page stop) ≡ true → Reaches s at (stop * s - at) page) size known
-        (λ t f. (grind (arith, common_steps, f), grind (arith, common_steps, f), grind (arith, common_steps, f))) (λ t f. (grind (arith, common_steps, f), grind (arith, common_steps, f), grind (arith, common_steps, f))) reaches e))
+    (λ t f. (grind (arith, common_steps, f), grind (arith, common_steps, f), grind (arith, common_steps, f))) (λ t f. (grind (arith, common_steps, f), grind (arith, common_steps, f), grind (arith, common_steps, f))) reaches e))
 
 -- ---- the pages and regions afterwards are those of the plain file
 

@@ -1,5 +1,5 @@
 -- What is true of every object.
-use Rattle.std.specs.Prelude.{ℕ, ◌≡◌, ◌+◌, ◌%◌, ◌<◌, ◌≤◌, ◌^◌, List, length, Some, All}
+use Rattle.std.specs.Prelude.{ℕ, ◌≡◌, ◌+◌, ◌<◌, ◌≤◌, ◌^◌, List, length, Some, All}
 use Rattle.pg_digest.specs.Kinds.{Hash}
 use Rattle.pg_io.specs.MemPages.{pages_reached}
 use Rattle.cs_policy.specs.declared.layout.Layout.{Layout}
@@ -17,15 +17,15 @@ use Rattle.pg_plain.specs.Keep.{Keep}
 use Rattle.pg_object.specs.Object.{ObjectNow, seen}
 use Rattle.pg_object.specs.Seals.{AreSealed}
 
--- a signed slice begins with a page of this size, and it and its signature lie within so many bytes
-abbrev pub IsSeated : ℕ → ℕ → SliceSeat → Type 0
-IsSeated size bytes (seat.Refused refusal) = Unit {0}
-IsSeated size bytes (seat.Signed slice sig) = (slice.at % size ≡ 0) × (slice.at + slice.len ≤ bytes) × (sig.at + sig.len ≤ bytes)
+-- a signed slice and its signature lie within so many bytes
+abbrev pub IsSeated : ℕ → SliceSeat → Type 0
+IsSeated bytes (seat.Refused refusal) = Unit {0}
+IsSeated bytes (seat.Signed slice sig) = (slice.at + slice.len ≤ bytes) × (sig.at + sig.len ≤ bytes)
 
 -- the same of each slice of a layout, of which there are fewer than 2 ^ 32
-abbrev pub IsLaid : ℕ → ℕ → Layout → Type 0
-IsLaid size bytes (layout.Refused refusal) = Unit {0}
-IsLaid size bytes (layout.Slices seats) = (length seats < 2 ^ 32) × All (IsSeated size bytes) seats
+abbrev pub IsLaid : ℕ → Layout → Type 0
+IsLaid bytes (layout.Refused refusal) = Unit {0}
+IsLaid bytes (layout.Slices seats) = (length seats < 2 ^ 32) × All (IsSeated bytes) seats
 
 -- the region's pages are among so many
 abbrev pub IsInside : ℕ → Region → Type 0
@@ -48,7 +48,7 @@ pub record IsKept (hash : Hash) (now : ObjectNow) : Type 0 where
   pub seals : AreSealed now
   -- the file has just the pages that its bytes reach, and its slices and regions lie within them
   pub reached : now.pages.cache.pager.pages ≡ pages_reached now.pages.cache.pager.page_size now.length
-  pub laid : IsLaid now.pages.cache.pager.page_size now.length now.layout
+  pub laid : IsLaid now.length now.layout
   pub inside : All (IsInside now.pages.cache.pager.pages) now.regions.regions
   -- each attached signature is one of its slice, on a machine with pages of this size
   pub signatures : All (IsSigned hash now.pages.cache.pager.page_size) now.blobs

@@ -23,8 +23,8 @@ pub record AreSealed (now : ObjectNow) : Type 0 where
   -- a page was found sealed by the signature that covers it, and by nothing else, and has all its slots
   pub signed : (page : ℕ) (seal : Seal) → (marks_of now.pages.marks page).validated ≡ Some seal
       → IsSomeAnd (cover_of now page) (λ attached.
-          IsTrue (is_below_limit now.pages.cache.pager.page_size attached.signature page)
-          × (seal ≡ seal_for now.pages.cache.pager.page_size attached.signature page))
+      IsTrue (is_below_limit now.pages.cache.pager.page_size attached.signature page)
+      × (seal ≡ seal_for now.pages.cache.pager.page_size attached.signature page))
   -- of a page that is not resident nothing says that a writer maps it
   pub unmapped : (page : ℕ) → resident_page now.pages.cache page ≡ None → (marks_of now.pages.marks page).writable ≡ false
   -- nothing is kept of a page that a shared region may write

@@ -85,14 +85,7 @@ impl<P: Pager, D: Digester> Object<P, D> {
     ///
     /// The answer is `NotMapped` exactly where no record of the region and page permits writing, and all is then as
     /// before. No memory is taken.
-    pub fn store(
-        &mut self,
-        id: u32,
-        page: u64,
-        at: u32,
-        bytes: &Bytes64,
-        resolve: u64,
-    ) -> FileReply
+    pub fn store(&mut self, id: u32, page: u64, at: u32, bytes: &Bytes64, resolve: u64) -> FileReply
         requires fits { at + length bytes.now ≤ self.old.pages.cache.pager.page_size }
         ensures acts { Acts D.hash self.old (event.Store id page at bytes.now resolve) None result self.new }
         ensures checked { KeepsChecked self.old (event.Store id page at bytes.now resolve) result self.new }

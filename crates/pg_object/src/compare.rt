@@ -41,7 +41,12 @@ pub(crate) fn compare<P: Pager, D: Digester>(
     pages.clear_writable(page);
     let wanted = wanted_of(blob, pages.page_size(), page);
     let part = blob.best().page_size() as u32;
-    match pages.check(page, blob.best().kind(), part, &wanted.digests[..wanted.used])? {
+    match pages.check(
+        page,
+        blob.best().kind(),
+        part,
+        &wanted.digests[..wanted.used],
+    )? {
         Check::Sealed => Ok(None),
         Check::NotSealed { part, found } => {
             let slot = wanted.first + u64::from(part);

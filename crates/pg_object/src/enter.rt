@@ -49,7 +49,14 @@ impl<P: Pager, D: Digester> Object<P, D> {
             }
         }
         if self.regions.copy(id, page).is_some() {
-            give(&mut self.pages, &mut self.regions, &region, page, access, guarded);
+            give(
+                &mut self.pages,
+                &mut self.regions,
+                &region,
+                page,
+                access,
+                guarded,
+            );
             return FileReply::Given {
                 victim: None,
                 violation: broken,
@@ -62,7 +69,14 @@ impl<P: Pager, D: Digester> Object<P, D> {
             Taken::Denied(denial) => FileReply::Denied(denial),
             Taken::Ready(left, noted) => {
                 unmap(&mut self.regions, left);
-                give(&mut self.pages, &mut self.regions, &region, page, access, guarded);
+                give(
+                    &mut self.pages,
+                    &mut self.regions,
+                    &region,
+                    page,
+                    access,
+                    guarded,
+                );
                 FileReply::Given {
                     victim: left,
                     violation: broken.or(noted),
@@ -73,7 +87,13 @@ impl<P: Pager, D: Digester> Object<P, D> {
 }
 
 // The signature against which a page is held: the one that covers it, for an execution that breaks no other rule.
-fn blob_for<'a>(kept: &'a [Kept], size: u32, page: u64, access: Access, broken: &Option<Denial>) -> Option<&'a Blob>
+fn blob_for<'a>(
+    kept: &'a [Kept],
+    size: u32,
+    page: u64,
+    access: Access,
+    broken: &Option<Denial>,
+) -> Option<&'a Blob>
     requires { IsTrue (is_page_size size) }
     ensures { option_copied result ≡ against size kept.now page access broken.now }
 {

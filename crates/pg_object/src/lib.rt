@@ -8,6 +8,7 @@ mod enter;
 mod evict;
 mod give;
 mod kept;
+mod laws;
 mod object;
 mod opening;
 mod rules;
@@ -15,11 +16,12 @@ mod signatures;
 mod take;
 mod write;
 
+pub use laws::checked_are_sealed;
 pub use object::Object;
 pub use opening::Room;
 pub use std::alloc::AllocError as NoMemory;
 
 #[cfg(test)]
-mod trial;
-#[cfg(test)]
 mod tests;
+#[cfg(test)]
+mod trial;

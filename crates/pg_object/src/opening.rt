@@ -26,8 +26,8 @@ pub struct Room {
 
 impl<P: Pager, D: Digester + Drop> Object<P, D> {
     /// The object of a file of `length` bytes with these pages, which nobody has mapped yet. No page is resident, and
-    /// there are just the pages that the bytes reach. Each signed slice of the layout begins with a page, and lies with
-    /// its signature within the bytes. Slices and regions are fewer than 2^32.
+    /// there are just the pages that the bytes reach. Each signed slice of the layout lies with its signature within the
+    /// bytes. Slices and regions are fewer than 2^32.
     ///
     /// All memory that the object ever uses is taken here, but for the bytes of a signature that is read: there is room
     /// for 64 attached signatures. `NoMemory` comes where there is none.
@@ -40,7 +40,7 @@ impl<P: Pager, D: Digester + Drop> Object<P, D> {
     ) -> Result<Object<P, D>, NoMemory>
         requires empty { pages.cache.held ≡ [] }
         requires reached { pages.cache.pager.pages ≡ pages_reached pages.cache.pager.page_size length }
-        requires laid { IsLaid pages.cache.pager.page_size length layout }
+        requires laid { IsLaid length layout }
         requires few { room.regions < 2 ^ 32 }
         ensures opened { IfOk result (IsOpened pages length layout room) }
         ensures kept { IfOk result (IsKept D.hash) }

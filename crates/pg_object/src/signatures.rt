@@ -124,7 +124,10 @@ impl<P: Pager, D: Digester> Object<P, D> {
         let mut bytes = Vec::with_capacity(alloc, range.len as usize)?;
         let mut twin = Vec::with_capacity(alloc, range.len as usize)?;
         if let Err(page) = read_range(&mut self.pages, range.at, range.len, &mut bytes) {
-            return Ok((FileReply::PagerFault { page }, FileReply::PagerFault { page }));
+            return Ok((
+                FileReply::PagerFault { page },
+                FileReply::PagerFault { page },
+            ));
         }
         let Ok(()) = twin.extend_from_slice(&bytes) else {
             unreachable!()

@@ -1,32 +1,38 @@
 ghost use Rattle.std.specs.Prelude.{◌<◌, ◌≤◌};
 
 use crate::trial::{Call, File, Rule, Told, Trial};
-use cs_policy::{Access, FAT_FAMILY, ProcFlags, Prot, Refusal, Region};
+use Access::{Execute, Read, Write};
 use bitflags::Flags;
+use cs_policy::{Access, FAT_FAMILY, ProcFlags, Prot, Refusal, Region};
 use cs_samples::{DIRECTORY, put, put_be32};
 use pg_bytes::Range;
 use std::alloc::{AllocGlobal, Global};
 use std::process::Abort;
 use std::test::Fail;
 
-use Access::{Execute, Read, Write};
-
 // SHA-256 digests by Python's hashlib: of 4,096 bytes of one value; of 0xff before 4,095 bytes of one; and of 4,000 bytes
 // 0x41 before 96 bytes 0xff.
 const BLOCK_42: [u8; 32] = *b"\x72\x5b\xcd\x6c\x66\xd0\x2a\xcf\x6e\xbe\xab\x9c\x92\x41\x0e\x01\
       \x0e\xa2\x2e\x33\x68\x76\x25\x6a\xaf\x05\xa2\x11\xf4\xce\x19\x02";
+
 const CHANGED_42: [u8; 32] = *b"\xb3\xe4\xae\xf8\x66\x2c\x0b\x68\xdd\xfd\xb4\x24\x24\xdd\xaa\xdc\
       \x68\xef\x96\xa2\x0b\x0c\xb2\x91\x39\xb0\x2b\x4f\x74\xfb\x92\xca";
+
 const BLOCK_41: [u8; 32] = *b"\x68\x96\xd9\xea\x3f\x73\xa4\x43\x4f\x58\x32\xbc\x65\x71\x4e\x7d\
       \x06\x6f\x17\x73\x73\xf3\x6f\x34\xdc\x8a\x6f\x73\x5d\xaa\x41\xb1";
+
 const CUT_41: [u8; 32] = *b"\x7d\xd9\xc3\x61\x92\x4a\x0d\x00\x71\xd5\x2c\x70\xbc\x92\xf1\x21\
       \x9f\x73\x69\xb4\x41\x1d\x9f\x3e\xb5\x52\x96\x0a\xe8\xe6\x12\x58";
+
 const BLOCK_43: [u8; 32] = *b"\xb2\x3f\x99\xe1\xf6\x53\xe6\x2f\xa5\xbc\x14\xcc\x52\x8a\x9e\xc3\
       \xb6\xd1\x1b\xe4\x82\xb2\xee\x51\xb5\x19\xd1\xd6\xad\x8c\x54\x66";
+
 const CHANGED_43: [u8; 32] = *b"\xa2\x78\x3d\xce\x4b\xff\x17\xaf\xbd\xc3\x85\x02\x98\xbf\x05\x13\
       \x7f\xb1\xc7\xfd\x03\x88\x5b\x4f\x2f\xa9\x20\xe3\x03\x00\x40\xe2";
+
 const BLOCK_44: [u8; 32] = *b"\x26\x7e\x5d\x2b\xb4\x21\x38\xbd\xf2\x3c\xcb\x5f\xbd\xea\x09\x38\
       \x51\x69\xde\x4c\x68\x6f\x7c\x12\x03\x4c\xcd\x7b\xb0\xc6\x89\x9d";
+
 const BLOCK_45: [u8; 32] = *b"\xa3\xc2\x55\xca\xf3\x61\x41\x2e\xd2\xcd\x90\xec\xff\x64\x37\xed\
       \x02\x63\x0a\xd5\x49\x40\xe9\x02\x46\x42\xe1\x3c\xfc\x10\x4c\x52";
 
@@ -175,7 +181,11 @@ fn a_page_is_hashed_once_while_it_stays(rt: HostRuntime) -> Result<(), Fail> {
     // A page that left memory is hashed again, and so is one that was written, also with equal bytes.
     play(&rt, &mut trial, &[(Call::Evict(0), Told::Evicted), fault])?;
     assert_eq!(rt; trial.hashes(), 2);
-    play(&rt, &mut trial, &[(write(0, 0x41), Told::Written(1)), fault, fault])?;
+    play(
+        &rt,
+        &mut trial,
+        &[(write(0, 0x41), Told::Written(1)), fault, fault],
+    )?;
     assert_eq!(rt; trial.hashes(), 3);
     Ok(())
 }
@@ -416,6 +426,27 @@ fn a_large_page_has_four_slots(rt: HostRuntime) -> Result<(), Fail> {
     Ok(())
 }
 
+// Such a slice is opened and its bytes are read; they are refused where they are to be attached.
+#[test]
+fn a_slice_may_begin_within_a_page(rt: HostRuntime) -> Result<(), Fail> {
+    let alloc = rt.alloc();
+    let file = File::new(two_large_pages(alloc)?, 16_384, 2, Vec::new(alloc));
+    let slice = Range {
+        at: 4096,
+        len: 29_018,
+    };
+    let sig = Range {
+        at: 32_768,
+        len: 346,
+    };
+    let mut trial = Trial::open(alloc, file, Some((slice, sig)))?;
+    play(
+        &rt,
+        &mut trial,
+        &[(Call::ReadSignature(0), Told::Read(346))],
+    )
+}
+
 // Calls with 21 pager calls, where two pages may be resident. Replies and pager calls are those of a model of the file that
 // was written apart, in another language.
 fn script() -> [(Call, Told); 30] {
@@ -429,7 +460,10 @@ fn script() -> [(Call, Told); 30] {
         (guarded(0, 1, Execute), GIVEN),
         (guarded(0, 2, Execute), Told::Given(Some(0), None)),
         (region(4096, 3, Prot::RW, true), Told::Added),
-        (free(4096, 0, Write), Told::Given(Some(1), Some(Rule::SealedWrite(0)))),
+        (
+            free(4096, 0, Write),
+            Told::Given(Some(1), Some(Rule::SealedWrite(0))),
+        ),
         (store(4096, 0, 0, 0xff), Told::Stored),
         (free(4096, 1, Read), Told::Given(Some(2), None)),
         (guarded(0, 0, Execute), Told::Denied(shared)),
@@ -482,22 +516,33 @@ const FAILURES: [(usize, Told); 21] = [
     (28, Told::PagerFault(2)),
 ];
 
+// Makes the calls before this place, and then the one that meets the failure of the pager call of this number.
+fn fails_at<R: Abort + AllocGlobal>(
+    rt: &R,
+    rows: &[(Call, Told)],
+    number: u64,
+    place: usize,
+    wanted: Told,
+) -> Result<(), Fail> {
+    if place >= rows.len() {
+        return Err("place".into());
+    }
+    let mut trial = three_pages(rt.alloc(), 2, &[number])?;
+    play(rt, &mut trial, &rows[..place])?;
+    let told = trial.run(rt.alloc(), rows[place].0)?;
+    assert_eq!(rt; told, wanted, "pager call {number}");
+    Ok(())
+}
+
 #[test]
 fn each_pager_call_fails_in_turn(rt: HostRuntime) -> Result<(), Fail> {
     let rows = script();
     let mut trial = three_pages(rt.alloc(), 2, &[22])?;
     play(&rt, &mut trial, &rows)?;
-    for (earlier, (place, wanted)) in FAILURES.into_iter().enumerate() {
-        let number = earlier as u64 + 1;
-        let mut trial = three_pages(rt.alloc(), 2, &[number])?;
-        for (at, (call, before)) in rows.iter().enumerate() {
-            let told = trial.run(rt.alloc(), *call)?;
-            if at == place {
-                assert_eq!(rt; told, wanted, "pager call {number}");
-                break;
-            }
-            assert_eq!(rt; told, *before, "pager call {number}, {call:?}");
-        }
+    let mut number = 0;
+    for (place, wanted) in FAILURES {
+        number += 1;
+        fails_at(&rt, &rows, number, place, wanted)?;
     }
     Ok(())
 }

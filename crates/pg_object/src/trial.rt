@@ -51,14 +51,38 @@ pub(crate) enum Call {
     ReadSignature(u32),
     // Reads the signature of a slice and attaches it.
     Attach(u32),
-    Write { at: u64, byte: u8, count: u32 },
+    Write {
+        at: u64,
+        byte: u8,
+        count: u32,
+    },
     AddRegion(Region),
     DropRegion(u32),
     DropPid(u32),
-    Enter { id: u32, page: u64, access: Access, flags: ProcFlags },
-    Store { id: u32, page: u64, at: u32, byte: u8 },
-    Load { id: u32, page: u64, at: u32, count: u32 },
-    Fetch { id: u32, page: u64, at: u32, count: u32 },
+    Enter {
+        id: u32,
+        page: u64,
+        access: Access,
+        flags: ProcFlags,
+    },
+    Store {
+        id: u32,
+        page: u64,
+        at: u32,
+        byte: u8,
+    },
+    Load {
+        id: u32,
+        page: u64,
+        at: u32,
+        count: u32,
+    },
+    Fetch {
+        id: u32,
+        page: u64,
+        at: u32,
+        count: u32,
+    },
     Evict(u64),
 }
 
@@ -148,7 +172,10 @@ fn told_by(reply: &FileReply) -> Told {
         FileReply::Dropped => Told::Dropped,
         FileReply::DroppedAll { count } => Told::DroppedAll(*count),
         FileReply::Denied(denial) => Told::Denied(broken_rule(denial)),
-        FileReply::Given { victim, violation } => Told::Given(*victim, violation.as_ref().map(broken_rule)),
+        FileReply::Given { victim, violation } => Told::Given(
+            *victim,
+            violation.as_ref().map(broken_rule),
+        ),
         FileReply::NotMapped => Told::NotMapped,
         FileReply::Stored => Told::Stored,
         FileReply::Got { bytes } => {
@@ -207,21 +234,12 @@ fn is_within(range: &Range, length: u64) -> bool
 }
 
 // A layout with one signed slice, or with none.
-fn layout_of(
-    alloc: Global,
-    seat: Option<(Range, Range)>,
-    page_size: u32,
-    length: u64,
-) -> Result<Layout, Fail>
-    requires { IsTrue (is_page_size page_size) }
-    ensures { IfOk result (IsLaid page_size length) }
+fn layout_of(alloc: Global, seat: Option<(Range, Range)>, length: u64) -> Result<Layout, Fail>
+    ensures { IfOk result (IsLaid length) }
 {
     let Some((slice, sig)) = seat else {
         return Ok(Layout::Slices(Seats::new(Vec::new(alloc))));
     };
-    if slice.at % u64::from(page_size) != 0 {
-        return Err("slice".into());
-    }
     if !is_within(&slice, length) || !is_within(&sig, length) {
         return Err("range".into());
     }
@@ -236,7 +254,7 @@ impl Trial {
         file: File,
         seat: Option<(Range, Range)>,
     ) -> Result<Trial, Fail> {
-        let layout = layout_of(alloc, seat, file.page_size, file.bytes.len() as u64)?;
+        let layout = layout_of(alloc, seat, file.bytes.len() as u64)?;
         Trial::with_layout(alloc, file, layout)
     }
 
@@ -246,7 +264,7 @@ impl Trial {
     }
 
     fn with_layout(alloc: Global, file: File, layout: Layout) -> Result<Trial, Fail>
-        requires { IsLaid file.page_size (vec_len file.bytes) layout }
+        requires { IsLaid (vec_len file.bytes) layout }
     {
         let length = file.bytes.len() as u64;
         let reached = length.div_ceil(u64::from(file.page_size));

@@ -135,7 +135,13 @@ fn write_page<P: Pager, D: Digester>(
     let part = part_of(pages.page_size(), at, count, page);
     match piece {
         Data::Hex(bytes) => pages.write(page, part.offset, &bytes.bytes()[part.start..part.stop]),
-        Data::Fill { byte, .. } => fill_page(pages, page, part.offset, *byte, part.stop - part.start),
+        Data::Fill { byte, .. } => fill_page(
+            pages,
+            page,
+            part.offset,
+            *byte,
+            part.stop - part.start,
+        ),
     }
 }
 

@@ -26,7 +26,7 @@ slot_of-slot-requires c =
     let part : c.page_size-hash_page.result ≡ hash_page c.args.blob.now = c.page_size-hash_page.ensures.size ∙ ap (λ (d : Fields). bytes_of d.page) c.best.ensures in
     let inside : c.loop-k.k < c.args.size / hash_page c.args.blob.now = subst (λ h. c.loop-k.k < c.args.size / h) part (subst (λ s. c.loop-k.k < s / c.page_size-hash_page.result) c.from.ensures c.loop-k-test.true) in
     let first : begins c.args.size c.args.blob.now c.args.page / hash_page c.args.blob.now ≡ c.begins.result / c.page_size-hash_page.result =
-        ap (λ b. b / hash_page c.args.blob.now) (sym c.begins.ensures.value) ∙ ap (λ h. c.begins.result / h) (sym part) in
+    ap (λ b. b / hash_page c.args.blob.now) (sym c.begins.ensures.value) ∙ ap (λ h. c.begins.result / h) (sym part) in
     record {
       directory = c.requires.holds.directory;
       inside = subst (λ f. f + c.loop-k.k < c.args.blob.now.best.code_slots) first (slot_inside c.args.size c.args.blob.now c.args.page c.loop-k.k c.requires.holds inside);
@@ -46,9 +46,9 @@ pub returns : goal.returns
 returns c =
     let part : c.page_size-hash_page.result ≡ hash_page c.args.blob.now = c.page_size-hash_page.ensures.size ∙ ap (λ (d : Fields). bytes_of d.page) c.best.ensures in
     let first : c.begins.result / c.page_size-hash_page.result ≡ begins c.args.size c.args.blob.now c.args.page / hash_page c.args.blob.now =
-        ap (λ b. b / c.page_size-hash_page.result) c.begins.ensures.value ∙ ap (λ h. begins c.args.size c.args.blob.now c.args.page / h) part in
+    ap (λ b. b / c.page_size-hash_page.result) c.begins.ensures.value ∙ ap (λ h. begins c.args.size c.args.blob.now c.args.page / h) part in
     let count : c.from.result / c.page_size-hash_page.result ≡ c.args.size / hash_page c.args.blob.now =
-        ap (λ s. s / c.page_size-hash_page.result) c.from.ensures ∙ ap (λ h. c.args.size / h) part in
+    ap (λ s. s / c.page_size-hash_page.result) c.from.ensures ∙ ap (λ h. c.args.size / h) part in
     let past = c.loop-k-test.false in
     let most = c.loop-k.auto.k-end in
     let all : c.loop-k.k ≡ c.args.size / hash_page c.args.blob.now = omega arith in

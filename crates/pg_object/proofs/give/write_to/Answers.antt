@@ -39,7 +39,7 @@ returns-then-is_none g c =
     record {
       regions = λ bytes own.
           let same = same_lent c.args.pages.now.cache c.args.page bytes c.bytes.result.now
-              (at_hand_uncopied c.args.pages.now.cache c.args.regions.now c.args.region.now c.args.page c.requires.at_hand none) own c.bytes.ensures.bytes in
+          (at_hand_uncopied c.args.pages.now.cache c.args.regions.now c.args.region.now c.args.page c.requires.at_hand none) own c.bytes.ensures.bytes in
           subst (λ b. MatchBool b (StripsPage c.args.regions.now c.args.page c.make_copy.new.self) (Copies c.args.regions.now c.args.region.now c.args.page bytes c.make_copy.new.self)) (sym c.if-region.false)
           (subst (λ bs. Copies c.args.regions.now c.args.region.now c.args.page bs c.make_copy.new.self) (sym same)
           (copies c.args.regions.now c.make_copy.new.self c.args.region.now c.args.page c.bytes.result.now none c.make_copy.ensures.after c.make_copy.ensures.found c.make_copy.ensures.room c.make_copy.ensures.sound));

@@ -12,7 +12,7 @@ pub read_page-requires : goal.read_page-requires
 read_page-requires g c =
     let size = c.page_size-size.ensures in
     let turn = turn_of c.args.pages.now c.args.at c.args.count c.loop-page.page c.page_size-size.result c.from.result c.end_reached-page-end.result
-        size.size size.known c.from.ensures c.end_reached-page-end.ensures c.loop-page.auto.page c.loop-page-test.true c.requires.inside in
+    size.size size.known c.from.ensures c.end_reached-page-end.ensures c.loop-page.auto.page c.loop-page-test.true c.requires.inside in
     let was = c.loop-page.invariant in
     record {
       room = was.room;
@@ -27,7 +27,7 @@ pub returns-then-is_err-clause-failed : goal.returns-then-is_err-clause-failed
 returns-then-is_err-clause-failed g c =
     let size = c.page_size-size.ensures in
     let turn = turn_of c.args.pages.now c.args.at c.args.count c.loop-page.page c.page_size-size.result c.from.result c.end_reached-page-end.result
-        size.size size.known c.from.ensures c.end_reached-page-end.ensures c.loop-page.auto.page c.loop-page-test.true c.requires.inside in
+    size.size size.known c.from.ensures c.end_reached-page-end.ensures c.loop-page.auto.page c.loop-page-test.true c.requires.inside in
     let call = c.read_page in
     stops g.D.Digester.hash c.args.pages.now c.loop-page.pages c.args.at c.args.count c.loop-page.page c.loop-page.bytes turn c.loop-page.invariant call.new.pages call.ensures.looks
     _ (sym c.is_err.ensures.value ∙ c.if-is_err.true) call.ensures.leaves
@@ -36,7 +36,7 @@ pub loop-page-preserved : goal.loop-page-preserved
 loop-page-preserved g c =
     let size = c.page_size-size.ensures in
     let turn = turn_of c.args.pages.now c.args.at c.args.count c.loop-page.page c.page_size-size.result c.from.result c.end_reached-page-end.result
-        size.size size.known c.from.ensures c.end_reached-page-end.ensures c.loop-page.auto.page c.loop-page-test.true c.requires.inside in
+    size.size size.known c.from.ensures c.end_reached-page-end.ensures c.loop-page.auto.page c.loop-page-test.true c.requires.inside in
     let call = c.read_page in
     let well = sym c.is_err.ensures.value ∙ c.if-is_err.false in
     turns g.D.Digester.hash c.args.pages.now c.loop-page.pages c.args.at c.args.count c.loop-page.page c.loop-page.bytes turn c.loop-page.invariant call.new.pages call.ensures.looks

@@ -16,15 +16,15 @@ returns g c =
     let inside = subst (λ (start : ObjectNow). IsInside start.pages.cache.pager.pages c.args.region) (sym c.self.view_is) c.requires.inside in
     let room = subst (λ (start : ObjectNow). 0 < (spare start.regions).regions) (sym c.self.view_is) c.requires.room in
     let done = subst (λ (start : ObjectNow). Does hash start (event.AddRegion c.args.region c.args.insert) None reply.Added c.if-is_none.self) c.self.view_is
-        (elim c.if-is_none.branch [
-          then-is_none w ↦ subst (Does hash old (event.AddRegion c.args.region c.args.insert) None reply.Added) (sym w.self-is)
-              (region_comes hash old c.args.region c.args.insert c.self.invariant w.add.new.self inside room
-              (none_copied c.find.result _ c.find.ensures.found (c.is_none.ensures ∙ ap not w.if-is_none.true))
-              w.add.ensures.after w.add.ensures.found w.add.ensures.fresh w.add.ensures.room w.add.ensures.sound)
-          | else-is_none w ↦ subst (Does hash old (event.AddRegion c.args.region c.args.insert) None reply.Added) (c.self.view_is ∙ sym w.self-is)
-              (region_stands hash old c.args.region c.args.insert c.self.invariant
-              (some_copied c.find.result _ c.find.ensures.found (c.is_none.ensures ∙ ap not w.if-is_none.false)))
-        ]) in
+    (elim c.if-is_none.branch [
+      | then-is_none w ↦ subst (Does hash old (event.AddRegion c.args.region c.args.insert) None reply.Added) (sym w.self-is)
+          (region_comes hash old c.args.region c.args.insert c.self.invariant w.add.new.self inside room
+          (none_copied c.find.result _ c.find.ensures.found (c.is_none.ensures ∙ ap not w.if-is_none.true))
+          w.add.ensures.after w.add.ensures.found w.add.ensures.fresh w.add.ensures.room w.add.ensures.sound)
+      | else-is_none w ↦ subst (Does hash old (event.AddRegion c.args.region c.args.insert) None reply.Added) (c.self.view_is ∙ sym w.self-is)
+          (region_stands hash old c.args.region c.args.insert c.self.invariant
+          (some_copied c.find.result _ c.find.ensures.found (c.is_none.ensures ∙ ap not w.if-is_none.false)))
+    ]) in
     record { acts = done.acts; checked = done.checked; unhashed = done.unhashed; kept = done.kept }
 
 pub invariant_of-self : goal.invariant_of-self

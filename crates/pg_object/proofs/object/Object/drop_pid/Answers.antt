@@ -11,7 +11,7 @@ returns g c =
     let call = c.drop_pid-count in
     let old = object_of c.self.inside.pages c.self.inside.regions c.self.inside.blobs c.self.inside.length c.self.inside.layout in
     let done = subst (λ (start : ObjectNow). Does g.D.Digester.hash start (event.DropPid c.args.pid) None (reply.DroppedAll call.result) (record old { regions = call.new.self })) c.self.view_is
-        (pid_goes g.D.Digester.hash old c.self.invariant call.new.self call.ensures.sound call.ensures.room c.args.pid call.result call.ensures.count call.ensures.after call.ensures.found) in
+    (pid_goes g.D.Digester.hash old c.self.invariant call.new.self call.ensures.sound call.ensures.room c.args.pid call.result call.ensures.count call.ensures.after call.ensures.found) in
     record { acts = done.acts; checked = done.checked; unhashed = done.unhashed; kept = done.kept }
 
 pub invariant_of-self : goal.invariant_of-self

@@ -14,12 +14,12 @@ returns g c =
     let answer = c.if-drop_region.result in
     let old = object_of c.self.inside.pages c.self.inside.regions c.self.inside.blobs c.self.inside.length c.self.inside.layout in
     let done = subst (λ (start : ObjectNow). Does g.D.Digester.hash start (event.DropRegion c.args.id) None answer (record old { regions = call.new.self })) c.self.view_is
-        (drops g.D.Digester.hash old c.self.invariant call.new.self call.ensures.sound call.ensures.room c.args.id call.result answer
-        call.ensures.answer call.ensures.unchanged call.ensures.after call.ensures.found
-        (elim c.if-drop_region.branch [
-          then-drop_region w ↦ answers_dropped answer call.result c.args.id w.if-drop_region.true w.result-is
-          | else-drop_region w ↦ answers_none answer call.result c.args.id w.if-drop_region.false w.result-is
-        ])) in
+    (drops g.D.Digester.hash old c.self.invariant call.new.self call.ensures.sound call.ensures.room c.args.id call.result answer
+    call.ensures.answer call.ensures.unchanged call.ensures.after call.ensures.found
+    (elim c.if-drop_region.branch [
+      | then-drop_region w ↦ answers_dropped answer call.result c.args.id w.if-drop_region.true w.result-is
+      | else-drop_region w ↦ answers_none answer call.result c.args.id w.if-drop_region.false w.result-is
+    ])) in
     record { acts = done.acts; checked = done.checked; unhashed = done.unhashed; kept = done.kept }
 
 pub invariant_of-self : goal.invariant_of-self

@@ -7,8 +7,8 @@ returns-in-Ok-true g c =
     let call = c.in-Ok-true.ensures in
     let regions = c.unmap_page in
     let done = does_from g.D.Digester.hash _ _ _ _ _ _ c.self.view_is
-        (leaves g.D.Digester.hash _ c.self.invariant c.evict.new.self c.args.page call.marked call.calls c.in-Ok-true.field-0 regions.new.self c.in-Ok-true.field-0-test
-        call.gives call.marks regions.ensures.after regions.ensures.found regions.ensures.room regions.ensures.sound) in
+    (leaves g.D.Digester.hash _ c.self.invariant c.evict.new.self c.args.page call.marked call.calls c.in-Ok-true.field-0 regions.new.self c.in-Ok-true.field-0-test
+    call.gives call.marks regions.ensures.after regions.ensures.found regions.ensures.room regions.ensures.sound) in
     record { acts = done.acts; checked = done.checked; unhashed = done.unhashed; kept = done.kept }
 
 pub invariant_of-self : goal.invariant_of-self
@@ -22,7 +22,7 @@ pub returns-in-Ok-false : goal.returns-in-Ok-false
 returns-in-Ok-false g c =
     let call = c.in-Ok-false.ensures in
     let done = does_from g.D.Digester.hash _ _ _ _ _ _ c.self.view_is
-        (stays_absent g.D.Digester.hash _ c.self.invariant c.evict.new.self c.args.page call.marked call.calls c.in-Ok-false.field-0 c.in-Ok-false.field-0-test call.gives call.marks) in
+    (stays_absent g.D.Digester.hash _ c.self.invariant c.evict.new.self c.args.page call.marked call.calls c.in-Ok-false.field-0 c.in-Ok-false.field-0-test call.gives call.marks) in
     record { acts = done.acts; checked = done.checked; unhashed = done.unhashed; kept = done.kept }
 
 pub invariant_of-self-in-Ok-false : goal.invariant_of-self-in-Ok-false
@@ -34,7 +34,7 @@ pub returns-in-Err : goal.returns-in-Err
 returns-in-Err g c =
     let call = c.in-Err.ensures in
     let done = does_from g.D.Digester.hash _ _ _ _ _ _ c.self.view_is
-        (fails g.D.Digester.hash _ c.self.invariant c.evict.new.self c.args.page call.marked call.calls c.in-Err.field-0 call.gives call.marks) in
+    (fails g.D.Digester.hash _ c.self.invariant c.evict.new.self c.args.page call.marked call.calls c.in-Err.field-0 call.gives call.marks) in
     record { acts = done.acts; checked = done.checked; unhashed = done.unhashed; kept = done.kept }
 
 pub invariant_of-self-in-Err : goal.invariant_of-self-in-Err

@@ -22,4 +22,4 @@ returns-in-None g c =
     let there = mapped_resident g.D.Digester.hash old c.args.id c.args.page c.self.invariant stands (sym c.in-None.ensures.found) in
     subst (λ (o : ObjectNow). (pages : List (List ℕ)) → Finds o.pages.cache pages → c.got-in-None.result ≡ reply.Got (take c.args.count (drop c.args.at (seen_by (seen o pages) c.args.id c.args.page)))) c.self.view_is
     (λ pages found. c.got-in-None.ensures
-        ∙ ap (λ bytes. reply.Got (take c.args.count (drop c.args.at bytes))) (resident_shows old c.args.id c.args.page c.bytes.result.now there (sym c.in-None.ensures.found) c.bytes.ensures.bytes pages found))
+    ∙ ap (λ bytes. reply.Got (take c.args.count (drop c.args.at bytes))) (resident_shows old c.args.id c.args.page c.bytes.result.now there (sym c.in-None.ensures.found) c.bytes.ensures.bytes pages found))

@@ -57,7 +57,7 @@ returns-clause-acts g c =
     let old = object_of c.self.inside.pages c.self.inside.regions c.self.inside.blobs c.self.inside.length c.self.inside.layout in
     let has = subst (λ (o : ObjectNow). HasSignature o c.args.slice c.in-Ok.range) (sym c.self.view_is) c.in-Ok.ensures.signed in
     let done = does_from g.D.Digester.hash _ _ _ _ _ _ c.self.view_is
-        (reads g.D.Digester.hash old c.self.invariant c.args.slice c.in-Ok.range has c.read_range.new.pages c.read_range.new.bytes.items c.self.invariant.sound.sized.size c.in_default.ensures.all) in
+    (reads g.D.Digester.hash old c.self.invariant c.args.slice c.in-Ok.range has c.read_range.new.pages c.read_range.new.bytes.items c.self.invariant.sound.sized.size c.in_default.ensures.all) in
     subst (λ (b : List ℕ). Acts g.D.Digester.hash c.args.self.now (event.ReadSignature c.args.slice) None (reply.Read b) (object_of c.read_range.new.pages c.self.inside.regions c.self.inside.blobs c.self.inside.length c.self.inside.layout)) (sym c.new-bytes.ensures) done.acts
 
 pub returns-clause-checked : goal.returns-clause-checked
@@ -65,7 +65,7 @@ returns-clause-checked g c =
     let old = object_of c.self.inside.pages c.self.inside.regions c.self.inside.blobs c.self.inside.length c.self.inside.layout in
     let has = subst (λ (o : ObjectNow). HasSignature o c.args.slice c.in-Ok.range) (sym c.self.view_is) c.in-Ok.ensures.signed in
     let done = does_from g.D.Digester.hash _ _ _ _ _ _ c.self.view_is
-        (reads g.D.Digester.hash old c.self.invariant c.args.slice c.in-Ok.range has c.read_range.new.pages c.read_range.new.bytes.items c.self.invariant.sound.sized.size c.in_default.ensures.all) in
+    (reads g.D.Digester.hash old c.self.invariant c.args.slice c.in-Ok.range has c.read_range.new.pages c.read_range.new.bytes.items c.self.invariant.sound.sized.size c.in_default.ensures.all) in
     subst (λ (b : List ℕ). KeepsChecked c.args.self.now (event.ReadSignature c.args.slice) (reply.Read b) (object_of c.read_range.new.pages c.self.inside.regions c.self.inside.blobs c.self.inside.length c.self.inside.layout)) (sym c.new-bytes.ensures) done.checked
 
 pub returns-clause-kept : goal.returns-clause-kept
@@ -73,5 +73,5 @@ returns-clause-kept g c =
     let old = object_of c.self.inside.pages c.self.inside.regions c.self.inside.blobs c.self.inside.length c.self.inside.layout in
     let has = subst (λ (o : ObjectNow). HasSignature o c.args.slice c.in-Ok.range) (sym c.self.view_is) c.in-Ok.ensures.signed in
     let done = does_from g.D.Digester.hash _ _ _ _ _ _ c.self.view_is
-        (reads g.D.Digester.hash old c.self.invariant c.args.slice c.in-Ok.range has c.read_range.new.pages c.read_range.new.bytes.items c.self.invariant.sound.sized.size c.in_default.ensures.all) in
+    (reads g.D.Digester.hash old c.self.invariant c.args.slice c.in-Ok.range has c.read_range.new.pages c.read_range.new.bytes.items c.self.invariant.sound.sized.size c.in_default.ensures.all) in
     done.kept

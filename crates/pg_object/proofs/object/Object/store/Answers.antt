@@ -34,7 +34,7 @@ invariant_of-self-else-is_some g c =
     let is = subst (λ (o : ObjectNow). c.may_write.result ≡ may_write (seen o []) c.args.id c.args.page) (sym c.self.view_is) c.may_write.ensures.answer in
     let bytes = c.bytes-else-is_some.result.now in
     let fits = subst (λ (o : ObjectNow). c.args.at + length bytes ≤ o.pages.cache.pager.page_size) (sym c.self.view_is)
-        (subst (λ (b : List ℕ). c.args.at + length b ≤ c.args.self.now.pages.cache.pager.page_size) (sym c.bytes-else-is_some.ensures.value) c.requires.fits) in
+    (subst (λ (b : List ℕ). c.args.at + length b ≤ c.args.self.now.pages.cache.pager.page_size) (sym c.bytes-else-is_some.ensures.value) c.requires.fits) in
     let put = c.put in
     (stores_page g.D.Digester.hash old c.self.invariant c.args.id c.args.page c.args.at bytes c.args.resolve c.may_write.result is c.if-not-may_write.false
     (some_found c.copy.result _ c.copy.ensures.found ∙ sym c.is_some.ensures ∙ c.if-is_some.false) put.new.self fits put.ensures.gives put.ensures.marks put.ensures.marked put.ensures.calls).kept
@@ -46,17 +46,17 @@ returns g c =
     let is = subst (λ (o : ObjectNow). c.may_write.result ≡ may_write (seen o []) c.args.id c.args.page) (sym c.self.view_is) c.may_write.ensures.answer in
     let stored : List ℕ → ObjectNow → Type 0 = λ bytes new. Does hash old (event.Store c.args.id c.args.page c.args.at bytes c.args.resolve) None reply.Stored new in
     let made : stored c.args.bytes.now c.if-is_some.self =
-        elim c.if-is_some.branch [
-          then-is_some w ↦ subst (stored c.args.bytes.now) (sym w.self-is) (subst (λ (b : List ℕ). stored b (record old { regions = w.put_copy.new.self })) w.bytes.ensures.value
-              (stores_copy hash old c.self.invariant c.args.id c.args.page c.args.at w.bytes.result.now c.args.resolve c.may_write.result is w.put_copy.new.self c.if-not-may_write.false
-              (some_found c.copy.result _ c.copy.ensures.found ∙ sym c.is_some.ensures ∙ w.if-is_some.true) w.put_copy.ensures.after w.put_copy.ensures.found w.put_copy.ensures.room w.put_copy.ensures.sound))
-          | else-is_some w ↦
-              let bytes = w.bytes-else-is_some.result.now in
-              let fits = subst (λ (o : ObjectNow). c.args.at + length bytes ≤ o.pages.cache.pager.page_size) (sym c.self.view_is)
-                  (subst (λ (b : List ℕ). c.args.at + length b ≤ c.args.self.now.pages.cache.pager.page_size) (sym w.bytes-else-is_some.ensures.value) c.requires.fits) in
-              subst (stored c.args.bytes.now) (sym w.self-is) (subst (λ (b : List ℕ). stored b (record old { pages = w.put.new.self })) w.bytes-else-is_some.ensures.value
-              (stores_page hash old c.self.invariant c.args.id c.args.page c.args.at bytes c.args.resolve c.may_write.result is c.if-not-may_write.false
-              (some_found c.copy.result _ c.copy.ensures.found ∙ sym c.is_some.ensures ∙ w.if-is_some.false) w.put.new.self fits w.put.ensures.gives w.put.ensures.marks w.put.ensures.marked w.put.ensures.calls))
-        ] in
+    elim c.if-is_some.branch [
+      | then-is_some w ↦ subst (stored c.args.bytes.now) (sym w.self-is) (subst (λ (b : List ℕ). stored b (record old { regions = w.put_copy.new.self })) w.bytes.ensures.value
+          (stores_copy hash old c.self.invariant c.args.id c.args.page c.args.at w.bytes.result.now c.args.resolve c.may_write.result is w.put_copy.new.self c.if-not-may_write.false
+          (some_found c.copy.result _ c.copy.ensures.found ∙ sym c.is_some.ensures ∙ w.if-is_some.true) w.put_copy.ensures.after w.put_copy.ensures.found w.put_copy.ensures.room w.put_copy.ensures.sound))
+      | else-is_some w ↦
+          let bytes = w.bytes-else-is_some.result.now in
+          let fits = subst (λ (o : ObjectNow). c.args.at + length bytes ≤ o.pages.cache.pager.page_size) (sym c.self.view_is)
+          (subst (λ (b : List ℕ). c.args.at + length b ≤ c.args.self.now.pages.cache.pager.page_size) (sym w.bytes-else-is_some.ensures.value) c.requires.fits) in
+          subst (stored c.args.bytes.now) (sym w.self-is) (subst (λ (b : List ℕ). stored b (record old { pages = w.put.new.self })) w.bytes-else-is_some.ensures.value
+          (stores_page hash old c.self.invariant c.args.id c.args.page c.args.at bytes c.args.resolve c.may_write.result is c.if-not-may_write.false
+          (some_found c.copy.result _ c.copy.ensures.found ∙ sym c.is_some.ensures ∙ w.if-is_some.false) w.put.new.self fits w.put.ensures.gives w.put.ensures.marks w.put.ensures.marked w.put.ensures.calls))
+    ] in
     let done = subst (λ (o : ObjectNow). Does hash o (event.Store c.args.id c.args.page c.args.at c.args.bytes.now c.args.resolve) None reply.Stored c.if-is_some.self) c.self.view_is made in
     record { acts = done.acts; checked = done.checked; unhashed = done.unhashed; kept = done.kept }

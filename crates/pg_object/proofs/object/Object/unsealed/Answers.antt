@@ -16,9 +16,9 @@ is_below_limit-requires g c =
     let now = object_of c.self.inside.pages c.self.inside.regions c.self.inside.blobs c.self.inside.length c.self.inside.layout in
     let size : c.page_size-size.result ≡ now.pages.cache.pager.page_size = c.page_size-size.ensures.size in
     let cover : option_copied c.covering.result ≡ option_map (λ (a : Attached). a.signature) (cover_of now c.args.page) =
-        c.covering.ensures
-        ∙ ap (λ (bs : List Attached). option_map (λ (a : Attached). a.signature) (find (λ (a : Attached). covers c.page_size-size.result a.signature c.args.page) bs)) c.list.ensures.value
-        ∙ ap (λ s. option_map (λ (a : Attached). a.signature) (find (λ (a : Attached). covers s a.signature c.args.page) now.blobs)) size in
+    c.covering.ensures
+    ∙ ap (λ (bs : List Attached). option_map (λ (a : Attached). a.signature) (find (λ (a : Attached). covers c.page_size-size.result a.signature c.args.page) bs)) c.list.ensures.value
+    ∙ ap (λ s. option_map (λ (a : Attached). a.signature) (find (λ (a : Attached). covers s a.signature c.args.page) now.blobs)) size in
     let one = lent c.covering.result (cover_of now c.args.page) cover c.in-Some.blob c.in-Some.is in
     record {
       size = c.page_size-size.ensures.known;
@@ -33,13 +33,13 @@ returns-then-not-is_below_limit g c =
     let now = object_of c.self.inside.pages c.self.inside.regions c.self.inside.blobs c.self.inside.length c.self.inside.layout in
     let size : c.page_size-size.result ≡ now.pages.cache.pager.page_size = c.page_size-size.ensures.size in
     let cover : option_copied c.covering.result ≡ option_map (λ (a : Attached). a.signature) (cover_of now c.args.page) =
-        c.covering.ensures
-        ∙ ap (λ (bs : List Attached). option_map (λ (a : Attached). a.signature) (find (λ (a : Attached). covers c.page_size-size.result a.signature c.args.page) bs)) c.list.ensures.value
-        ∙ ap (λ s. option_map (λ (a : Attached). a.signature) (find (λ (a : Attached). covers s a.signature c.args.page) now.blobs)) size in
+    c.covering.ensures
+    ∙ ap (λ (bs : List Attached). option_map (λ (a : Attached). a.signature) (find (λ (a : Attached). covers c.page_size-size.result a.signature c.args.page) bs)) c.list.ensures.value
+    ∙ ap (λ s. option_map (λ (a : Attached). a.signature) (find (λ (a : Attached). covers s a.signature c.args.page) now.blobs)) size in
     let one = lent c.covering.result (cover_of now c.args.page) cover c.in-Some.blob c.in-Some.is in
     let below : is_below_limit now.pages.cache.pager.page_size one.0.signature c.args.page ≡ false =
-        ap (λ (b : Signature). is_below_limit now.pages.cache.pager.page_size b c.args.page) one.1.1 ∙ ap (λ s. is_below_limit s c.in-Some.blob.now c.args.page) (sym size)
-        ∙ sym c.is_below_limit.ensures ∙ c.if-not-is_below_limit.true in
+    ap (λ (b : Signature). is_below_limit now.pages.cache.pager.page_size b c.args.page) one.1.1 ∙ ap (λ s. is_below_limit s c.in-Some.blob.now c.args.page) (sym size)
+    ∙ sym c.is_below_limit.ensures ∙ c.if-not-is_below_limit.true in
     subst (λ (n : ObjectNow). Some (BeyondLimit c.args.page) ≡ first_denial (unsigned (seen n []) c.args.page ∷ beyond_limit (seen n []) c.args.page ∷ writable_shared (seen n []) c.args.page ∷ [])) c.self.view_is
     (rules_beyond now c.args.page one.0 one.1.0 below)
 
@@ -48,13 +48,13 @@ returns-in-Some-writer g c =
     let now = object_of c.self.inside.pages c.self.inside.regions c.self.inside.blobs c.self.inside.length c.self.inside.layout in
     let size : c.page_size-size.result ≡ now.pages.cache.pager.page_size = c.page_size-size.ensures.size in
     let cover : option_copied c.covering.result ≡ option_map (λ (a : Attached). a.signature) (cover_of now c.args.page) =
-        c.covering.ensures
-        ∙ ap (λ (bs : List Attached). option_map (λ (a : Attached). a.signature) (find (λ (a : Attached). covers c.page_size-size.result a.signature c.args.page) bs)) c.list.ensures.value
-        ∙ ap (λ s. option_map (λ (a : Attached). a.signature) (find (λ (a : Attached). covers s a.signature c.args.page) now.blobs)) size in
+    c.covering.ensures
+    ∙ ap (λ (bs : List Attached). option_map (λ (a : Attached). a.signature) (find (λ (a : Attached). covers c.page_size-size.result a.signature c.args.page) bs)) c.list.ensures.value
+    ∙ ap (λ s. option_map (λ (a : Attached). a.signature) (find (λ (a : Attached). covers s a.signature c.args.page) now.blobs)) size in
     let one = lent c.covering.result (cover_of now c.args.page) cover c.in-Some.blob c.in-Some.is in
     let below : is_below_limit now.pages.cache.pager.page_size one.0.signature c.args.page ≡ true =
-        ap (λ (b : Signature). is_below_limit now.pages.cache.pager.page_size b c.args.page) one.1.1 ∙ ap (λ s. is_below_limit s c.in-Some.blob.now c.args.page) (sym size)
-        ∙ sym c.is_below_limit.ensures ∙ c.if-not-is_below_limit.false in
+    ap (λ (b : Signature). is_below_limit now.pages.cache.pager.page_size b c.args.page) one.1.1 ∙ ap (λ s. is_below_limit s c.in-Some.blob.now c.args.page) (sym size)
+    ∙ sym c.is_below_limit.ensures ∙ c.if-not-is_below_limit.false in
     let is : c.writer.result ≡ Some c.in-Some-writer.region = c.in-Some-writer.is in
     let answer = ap (option_map (λ (id : ℕ). WritableShared c.args.page id)) is in
     subst (λ (d : Option Denial). d ≡ first_denial (unsigned (seen c.args.self.now []) c.args.page ∷ beyond_limit (seen c.args.self.now []) c.args.page ∷ writable_shared (seen c.args.self.now []) c.args.page ∷ [])) answer
@@ -67,13 +67,13 @@ returns-in-None g c =
     let now = object_of c.self.inside.pages c.self.inside.regions c.self.inside.blobs c.self.inside.length c.self.inside.layout in
     let size : c.page_size-size.result ≡ now.pages.cache.pager.page_size = c.page_size-size.ensures.size in
     let cover : option_copied c.covering.result ≡ option_map (λ (a : Attached). a.signature) (cover_of now c.args.page) =
-        c.covering.ensures
-        ∙ ap (λ (bs : List Attached). option_map (λ (a : Attached). a.signature) (find (λ (a : Attached). covers c.page_size-size.result a.signature c.args.page) bs)) c.list.ensures.value
-        ∙ ap (λ s. option_map (λ (a : Attached). a.signature) (find (λ (a : Attached). covers s a.signature c.args.page) now.blobs)) size in
+    c.covering.ensures
+    ∙ ap (λ (bs : List Attached). option_map (λ (a : Attached). a.signature) (find (λ (a : Attached). covers c.page_size-size.result a.signature c.args.page) bs)) c.list.ensures.value
+    ∙ ap (λ s. option_map (λ (a : Attached). a.signature) (find (λ (a : Attached). covers s a.signature c.args.page) now.blobs)) size in
     let one = lent c.covering.result (cover_of now c.args.page) cover c.in-Some.blob c.in-Some.is in
     let below : is_below_limit now.pages.cache.pager.page_size one.0.signature c.args.page ≡ true =
-        ap (λ (b : Signature). is_below_limit now.pages.cache.pager.page_size b c.args.page) one.1.1 ∙ ap (λ s. is_below_limit s c.in-Some.blob.now c.args.page) (sym size)
-        ∙ sym c.is_below_limit.ensures ∙ c.if-not-is_below_limit.false in
+    ap (λ (b : Signature). is_below_limit now.pages.cache.pager.page_size b c.args.page) one.1.1 ∙ ap (λ s. is_below_limit s c.in-Some.blob.now c.args.page) (sym size)
+    ∙ sym c.is_below_limit.ensures ∙ c.if-not-is_below_limit.false in
     let is : c.writer.result ≡ None = c.in-None.is in
     let answer = ap (option_map (λ (id : ℕ). WritableShared c.args.page id)) is in
     subst (λ (d : Option Denial). d ≡ first_denial (unsigned (seen c.args.self.now []) c.args.page ∷ beyond_limit (seen c.args.self.now []) c.args.page ∷ writable_shared (seen c.args.self.now []) c.args.page ∷ [])) answer
