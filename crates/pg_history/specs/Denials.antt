@@ -16,7 +16,7 @@ use Rattle.pg_plain.specs.Verdict.{verdict}
 use Rattle.pg_history.specs.Machine.{Line, FilePart, Machine, replay}
 use Rattle.pg_history.specs.Opening.{Opening}
 
--- the access was of a guarded process, and this is the first rule that it breaks in the file as it was
+-- the access was asked with flags of a guarded process, and this is the first rule that it breaks in the file as it was
 pub record IsVerdictIn (hash : Hash) (m : Machine) (number id page : ℕ) (access : Access) (flags : ProcFlags) (denial : Denial) : Type 0 where
   pub part : FilePart
   pub region : Region

@@ -84,7 +84,7 @@ impl<P: Pager, D: Digester> Object<P, D> {
     /// and the page were found.
     ///
     /// The answer is `NotMapped` exactly where no record of the region and page permits writing, and all is then as
-    /// before. No memory is taken.
+    /// before.
     pub fn store(&mut self, id: u32, page: u64, at: u32, bytes: &Bytes64, resolve: u64) -> FileReply
         requires fits { at + length bytes.now ≤ self.old.pages.cache.pager.page_size }
         ensures acts { Acts D.hash self.old (event.Store id page at bytes.now resolve) None result self.new }
@@ -106,7 +106,7 @@ impl<P: Pager, D: Digester> Object<P, D> {
     /// Loads `count` bytes, 1 to 64 that stay in a page, from the byte `at` of the page on: of the region's private
     /// copy of the page where it has one, else of the page. `resolve` is as for `store`. Nothing changes.
     ///
-    /// The answer is `NotMapped` exactly where no record of the region and page permits reading. No memory is taken.
+    /// The answer is `NotMapped` exactly where no record of the region and page permits reading.
     pub fn load(&mut self, id: u32, page: u64, at: u32, count: u32, resolve: u64) -> FileReply
         requires some { 0 < count }
         requires most { count ≤ 64 }

@@ -27,14 +27,13 @@ impl<P: Pager, D: Digester> Object<P, D> {
     ///
     /// The region's record of the page is given the access. Where the region has no private copy of the page, the page
     /// is made resident, as the most recent; another may leave for it, with each record of it whose region has no
-    /// private copy of it, and is written before where it is dirty. A write to a private region makes a private copy,
+    /// private copy of it, and is written where it is dirty. A write to a private region makes a private copy,
     /// and one to a shared region takes the permission to execute from every record of the page.
     ///
     /// The answer is `NoRegion` exactly where no such region has the page. A guarded process is `Denied` an access that
     /// breaks a rule, with the first rule that it breaks; another is `Given` it, with that rule. `PagerFault` comes only
     /// where a pager call failed, at its page. The regions, their records and copies and the list of resident pages stay
-    /// as they were unless the answer is `Given`. Pages are hashed for executions alone, and a checked page never. No
-    /// memory is taken.
+    /// as they were unless the answer is `Given`. Pages are hashed for executions alone, and a checked page never.
     pub fn enter(
         &mut self,
         id: u32,

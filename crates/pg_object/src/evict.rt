@@ -12,8 +12,7 @@ use pg_digest::Digester;
 use pg_io::Pager;
 
 impl<P: Pager, D: Digester> Object<P, D> {
-    /// A page leaves memory, with each record of it whose region has no private copy of it. A dirty page is written
-    /// before.
+    /// A page leaves memory, with each record of it whose region has no private copy of it. A dirty page is written.
     ///
     /// The answer is `NotResident` exactly where the page is not resident. `PagerFault` at this page comes only where
     /// that write failed, and all is then as before.

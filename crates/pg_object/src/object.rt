@@ -75,7 +75,8 @@ impl<P: Pager, D: Digester> Object<P, D> {
         FileReply::Noted
     }
 
-    /// Adds a region, which `insert` mapped.
+    /// Adds a region, which the event with the stamp `insert` mapped. Its pages are pages of the file, and there is room
+    /// for one more. Where a region has its number, nothing changes. The answer is `Added`.
     pub fn add_region(&mut self, region: Region, insert: u64) -> FileReply
         requires inside { IsInside self.old.pages.cache.pager.pages region }
         requires room { 0 < (spare self.old.regions).regions }
@@ -90,7 +91,8 @@ impl<P: Pager, D: Digester> Object<P, D> {
         FileReply::Added
     }
 
-    /// Drops a region with its records and private copies.
+    /// Drops a region with its records and private copies. The answer is `Dropped`, or `NoRegion` exactly where there is no
+    /// such region.
     pub fn drop_region(&mut self, id: u32) -> FileReply
         ensures acts { Acts D.hash self.old (event.DropRegion id) None result self.new }
         ensures checked { KeepsChecked self.old (event.DropRegion id) result self.new }
@@ -104,7 +106,7 @@ impl<P: Pager, D: Digester> Object<P, D> {
         }
     }
 
-    /// Drops all regions of a process in the same way.
+    /// Drops all regions of a process in the same way. The answer is how many there were.
     pub fn drop_pid(&mut self, pid: u32) -> FileReply
         ensures acts { Acts D.hash self.old (event.DropPid pid) None result self.new }
         ensures checked { KeepsChecked self.old (event.DropPid pid) result self.new }

@@ -29,8 +29,8 @@ impl<P: Pager, D: Digester + Drop> Object<P, D> {
     /// there are just the pages that the bytes reach. Each signed slice of the layout lies with its signature within the
     /// bytes. Slices and regions are fewer than 2^32.
     ///
-    /// All memory that the object ever uses is taken here, but for the bytes of a signature that is read: there is room
-    /// for 64 attached signatures. `NoMemory` comes where there is none.
+    /// The memory for as many regions, records, private copies and attached signatures as there is room for is taken here.
+    /// There is room for 64 signatures.
     pub fn open(
         alloc: Global,
         pages: Pages<P, D>,

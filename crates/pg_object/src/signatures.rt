@@ -31,12 +31,13 @@ impl<P: Pager, D: Digester> Object<P, D> {
         self.blobs.is_full()
     }
 
-    /// Attaches the signature of a slice, whose bytes were read at the stamp `read` and whose cdhash was looked up at
-    /// `lookup`. There are fewer than 64 attached signatures, and it is one for pages of the file's size.
+    /// Attaches a signature as that of the slice with this number. The stamps `read` and `lookup` are those at which its
+    /// bytes were read and its cdhash was looked up: they change nothing. There are fewer than 64 attached signatures, and
+    /// this one is accepted for pages as large as the file's.
     ///
     /// The answer is `Already` exactly where an attached signature is of the slice and has its cdhash, and else
     /// `Overlap` exactly where an attached one covers a page that it covers, with the least number; nothing changes then.
-    /// No page is hashed, and no memory is taken.
+    /// No page is hashed.
     pub fn add_blob(&mut self, slice: u32, blob: Blob, read: u64, lookup: u64) -> FileReply
         requires room { length self.old.blobs < 64 }
         requires signed { IsSignature D.hash blob.bytes blob.slice (Some self.old.pages.cache.pager.page_size) blob }
@@ -96,15 +97,14 @@ impl<P: Pager, D: Digester> Object<P, D> {
         }
     }
 
-    /// Reads the present bytes of the signature of a slice, and answers twice in two equal values. The memory for both is
-    /// taken before any pager call.
+    /// Reads the present bytes of the signature of a slice, and answers twice in two equal values.
     ///
     /// The answer is `NoSlices` exactly where the layout is refused, `NoSlice` exactly where there is no such slice, and
-    /// `NoImage` exactly where the slice is refused. Each page of the signature that is not resident is read once, in
-    /// their order. `PagerFault` comes only where such a read failed, at its page. All stays as it was, and no page is
-    /// hashed.
+    /// `NoImage` exactly where the slice is refused. There are as many pager calls as pages of the signature that are not
+    /// resident, up to one that fails, and `PagerFault` comes only where one failed, at its page. The plain file stays as
+    /// it was, and no page is hashed.
     ///
-    /// `NoMemory` comes where there is no memory for the bytes: no pager call was made then, and all is as before.
+    /// After `NoMemory` no pager call was made, and all is as before.
     pub fn read_signature(
         &mut self,
         alloc: Global,

@@ -539,9 +539,7 @@ fn each_pager_call_fails_in_turn(rt: HostRuntime) -> Result<(), Fail> {
     let rows = script();
     let mut trial = three_pages(rt.alloc(), 2, &[22])?;
     play(&rt, &mut trial, &rows)?;
-    let mut number = 0;
-    for (place, wanted) in FAILURES {
-        number += 1;
+    for (number, (place, wanted)) in (1..22).zip(FAILURES) {
         fails_at(&rt, &rows, number, place, wanted)?;
     }
     Ok(())

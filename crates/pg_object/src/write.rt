@@ -27,12 +27,12 @@ use pg_regions::Regions;
 const MOST: usize = 16_384;
 
 impl<P: Pager, D: Digester> Object<P, D> {
-    /// Writes data from the byte `at` of the file on, through to the pager, page by page in their order. Each page that
+    /// Writes data from the byte `at` of the file on, through to the pager. Each page that
     /// was written is executed by nobody afterwards: its records lose that permission, and it is no longer checked.
     ///
     /// The answer is `PastEnd` exactly where the data pass the end of the file, and nothing changes then. `Short` comes
     /// only where a pager call failed, with the number of bytes that stand: those before the page of that call. No page
-    /// is hashed, and no memory is taken.
+    /// is hashed.
     pub fn write(&mut self, at: u64, piece: &Data) -> FileReply
         ensures acts { Acts D.hash self.old (event.Write at piece.now) None result self.new }
         ensures checked { KeepsChecked self.old (event.Write at piece.now) result self.new }
