@@ -1,0 +1,9 @@
+pub mod Room
+pub mod Replies
+pub mod Parts
+pub mod Asking
+pub mod Calls
+pub mod Exits
+pub mod Found
+pub mod Tried
+pub mod Scripts
