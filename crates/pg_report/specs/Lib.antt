@@ -1,0 +1,15 @@
+pub mod Denials
+pub mod Events
+pub mod Replies
+pub mod Journal
+pub mod EventParts
+pub mod ReplyParts
+pub mod Forms
+pub mod Gives
+pub mod EventRows
+pub mod Words
+pub mod ReplyRows
+pub mod Reading
+pub mod Answers
+pub mod Fits
+pub mod Again
