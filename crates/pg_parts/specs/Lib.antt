@@ -1,0 +1,5 @@
+pub mod Rooms
+pub mod Opened
+pub mod Asking
+pub mod Replays
+pub mod Laws
