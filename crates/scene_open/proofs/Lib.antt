@@ -1,0 +1,10 @@
+pub mod GrammarFacts
+pub mod CountFacts
+pub mod LayoutFacts
+pub mod CutFacts
+pub mod FitFacts
+pub mod SizeFacts
+pub mod OpeningFacts
+pub mod SceneFacts
+pub mod ItemFacts
+pub mod ReadFacts
