@@ -1,0 +1,173 @@
+-- How a run goes by what was read.
+use Rattle.std.proofs.Common.{◌≡◌, ℕ, List, [], ◌∷◌, ◌++◌, map, Option, Some, None, Result, Ok, Err, refl, sym, ap, subst, ◌∙◌, append-nil}
+use Rattle.std.specs.Prelude.{unwrap_or}
+use Rattle.std.specs.Result.{result_ok}
+use Rattle.std.specs.List.{flat_map}
+use Rattle.pg_bytes.specs.declared.status.Status.{Status}
+use Rattle.pg_bytes.specs.declared.status.Status.TheVariants as status
+use Rattle.pg_digest.specs.Kinds.{Hash}
+use Rattle.pg_io.specs.Files.{Told}
+use Rattle.cs_policy.specs.declared.call.Call.{Call}
+use Rattle.scene_text.specs.declared.head.Head.{Head}
+use Rattle.scene_text.specs.declared.line.Line.TheVariants as line
+use Rattle.scene_text.specs.declared.line.Line as scene_line
+use Rattle.scene_text.specs.declared.whole.Scene.{Scene}
+use Rattle.scene_text.specs.Scenes.{script_lines, scene_lines}
+use Rattle.scene_text.specs.Texts.{IsScene}
+use Rattle.scene_open.specs.declared.open_scene.OpenScene.{OpenScene}
+use Rattle.scene_open.specs.Ends.{text_end, scene_end, IsSceneOf, ReadsScene, OpensTo, Opens}
+use Rattle.scene_open.specs.Items.{Item, heads_of, path_of, told_behind, items_told, items_end}
+use Rattle.scene_open.specs.Opening.{opening_of, opening_with}
+use Rattle.scene_run.specs.Ending.{heads_in, scripts_from, scripts_in, lines_found, Run, unless_ends, run_items, run_found, path_of as words_path, run_by, PrintsLegal, RunsLegal, GoesTo, Answers}
+use Rattle.std.specs.Io.KnownBytes.{append_known}
+use Rattle.scene_run.specs.Runs.{RunsSolo}
+use Rattle.pg_report.specs.Journal.{journal}
+use Rattle.pg_history.specs.Machine.{Line}
+use Rattle.pg_history.specs.Opening.{Opening}
+use Rattle.pg_history.specs.Legal.{calls_in}
+use Rattle.pg_history.proofs.SoloFacts.{ordered_is_solo}
+
+-- ---- the header lines and the scripts of a scene's lines
+
+abbrev Begun : Type 0
+Begun = List Call × List (List Call)
+
+calls_then : (calls : List Call) (rest : List scene_line.Line) (one : List Call) (others : List (List Call))
+    → ◌≡◌ {A = Begun} (scripts_from rest) (one, others) → ◌≡◌ {A = Begun} (scripts_from (map (λ call. line.Call call) calls ++ rest)) (calls ++ one, others)
+calls_then [] rest one others is = is
+calls_then (c ∷ cs) rest one others is = ap {B = Begun} (λ (x : Begun). (c ∷ x.0, x.1)) (calls_then cs rest one others is)
+
+scripts-are : (scripts : List (List Call)) → ◌≡◌ {A = Begun} (scripts_from (flat_map script_lines scripts)) ([], scripts)
+scripts-are [] = refl
+scripts-are (calls ∷ scripts) =
+    ap {B = Begun} (λ (x : Begun). ([], x.0 ∷ x.1)) (calls_then calls (flat_map script_lines scripts) [] scripts (scripts-are scripts))
+    ∙ ap {B = Begun} (λ cs. ([], cs ∷ scripts)) (append-nil calls)
+
+scripts-behind : (heads : List Head) (rest : List scene_line.Line) → ◌≡◌ {A = Begun} (scripts_from (map (λ h. line.Head h) heads ++ rest)) (scripts_from rest)
+scripts-behind [] rest = refl
+scripts-behind (h ∷ hs) rest = scripts-behind hs rest
+
+no-heads : (calls : List Call) (rest : List scene_line.Line) → heads_in rest ≡ [] → heads_in (map (λ call. line.Call call) calls ++ rest) ≡ []
+no-heads [] rest is = is
+no-heads (c ∷ cs) rest is = no-heads cs rest is
+
+heads-none : (scripts : List (List Call)) → heads_in (flat_map script_lines scripts) ≡ []
+heads-none [] = refl
+heads-none (calls ∷ scripts) = no-heads calls (flat_map script_lines scripts) (heads-none scripts)
+
+heads-are : (heads : List Head) (rest : List scene_line.Line) → heads_in rest ≡ [] → heads_in (map (λ h. line.Head h) heads ++ rest) ≡ heads
+heads-are [] rest is = is
+heads-are (h ∷ hs) rest is = ap (λ xs. h ∷ xs) (heads-are hs rest is)
+
+scene-heads : (scene : Scene) → heads_in (scene_lines scene) ≡ scene.head
+scene-heads scene = heads-are scene.head (flat_map script_lines scene.scripts) (heads-none scene.scripts)
+
+scene-scripts : (scene : Scene) → scripts_in (scene_lines scene) ≡ scene.scripts
+scene-scripts scene = ap (λ (x : Begun). x.1) (scripts-behind scene.head (flat_map script_lines scene.scripts) ∙ scripts-are scene.scripts)
+
+-- ---- what was found of the scene's file
+
+lines-said : (text : List ℕ) (scene : Scene) → IsScene text scene → lines_found (Some text) ≡ scene_lines scene
+lines-said text scene is = ap (λ r. unwrap_or (result_ok r) []) is
+
+passes : (text : List ℕ) → text_end text ≡ None → scene_end (Some text) ≡ None
+passes text is = is
+
+-- a scene that was read goes on by its items
+pub goes-on : (told : Told) (found : Option (List ℕ)) (scene : Scene) → IsSceneOf found scene
+    → run_found told found ≡ run_items (items_told told scene.head) scene.scripts
+goes-on told found scene is =
+    ap (λ f. run_found told f) is.read
+    ∙ ap (λ e. unless_ends e (run_items (items_told told (heads_in (lines_found (Some is.text)))) (scripts_in (lines_found (Some is.text))))) (passes is.text is.passes)
+    ∙ ap (λ ls. run_items (items_told told (heads_in ls)) (scripts_in ls)) (lines-said is.text scene is.says)
+    ∙ ap (λ hs. run_items (items_told told hs) (scripts_in (scene_lines scene))) (scene-heads scene)
+    ∙ ap (λ ss. run_items (items_told told scene.head) ss) (scene-scripts scene)
+
+-- the end at the scene's file is that of the run
+ends-found : (told : Told) (found : Option (List ℕ)) (s : Status) → scene_end found ≡ Some s → run_found told found ≡ Err s
+ends-found told found s is = ap (λ e. unless_ends e (run_items (items_told told (heads_in (lines_found found))) (scripts_in (lines_found found)))) is
+
+pub scene-ends : (hash : Hash) (told : Told) (found : Option (List ℕ)) (s : Status) → ReadsScene found (Err s) → Answers hash (run_found told found) (Err s)
+scene-ends hash told found status.NoMemory is = tt
+scene-ends hash told found status.Done is = ends-found told found _ is
+scene-ends hash told found status.NotSealed is = ends-found told found _ is
+scene-ends hash told found status.Usage is = ends-found told found _ is
+scene-ends hash told found (status.SceneBad line kind) is = ends-found told found _ is
+scene-ends hash told found (status.FileFault item) is = ends-found told found _ is
+scene-ends hash told found status.SinkFault is = ends-found told found _ is
+scene-ends hash told found (status.Limit which number) is = ends-found told found _ is
+scene-ends hash told found (status.TrustBad item number arg) is = ends-found told found _ is
+
+-- ---- its items
+
+heads-told : (told : Told) (heads : List Head) → heads_of (items_told told heads) ≡ heads
+heads-told told [] = refl
+heads-told told (h ∷ hs) = ap (λ xs. h ∷ xs) (heads-told (told_behind told (path_of h)) hs)
+
+ends-items : (items : List Item) (scripts : List (List Call)) (s : Status) → items_end 1 items ≡ Some s → run_items items scripts ≡ Err s
+ends-items items scripts s is = ap (λ e. unless_ends e (Ok (record { opening = opening_of items; scripts = scripts }))) is
+
+items-end : (hash : Hash) (items : List Item) (scripts : List (List Call)) (s : Status) → Opens items (Err s) → Answers hash (run_items items scripts) (Err s)
+items-end hash items scripts status.NoMemory is = tt
+items-end hash items scripts status.Done is = ends-items items scripts _ is
+items-end hash items scripts status.NotSealed is = ends-items items scripts _ is
+items-end hash items scripts status.Usage is = ends-items items scripts _ is
+items-end hash items scripts (status.SceneBad line kind) is = ends-items items scripts _ is
+items-end hash items scripts (status.FileFault item) is = ends-items items scripts _ is
+items-end hash items scripts status.SinkFault is = ends-items items scripts _ is
+items-end hash items scripts (status.Limit which number) is = ends-items items scripts _ is
+items-end hash items scripts (status.TrustBad item number arg) is = ends-items items scripts _ is
+
+pub items-ends : (hash : Hash) (told : Told) (found : Option (List ℕ)) (scene : Scene) (s : Status) → IsSceneOf found scene
+    → Opens (items_told told scene.head) (Err s) → Answers hash (run_found told found) (Err s)
+items-ends hash told found scene s is ends =
+    subst (λ goes. Answers hash goes (Err s)) (sym (goes-on told found scene is)) (items-end hash (items_told told scene.head) scene.scripts s ends)
+
+-- the run goes from the opening of what was opened
+pub goes-from : (told : Told) (found : Option (List ℕ)) (scene : Scene) (o : OpenScene) → IsSceneOf found scene → OpensTo (items_told told scene.head) o
+    → run_found told found ≡ Ok (record { opening = opening_with scene.head o.files.items o.layouts.items o.trust; scripts = scene.scripts })
+goes-from told found scene o is opens =
+    goes-on told found scene is
+    ∙ ap (λ e. unless_ends e (Ok (record { opening = opening_of (items_told told scene.head); scripts = scene.scripts }))) opens.passes
+    ∙ ap (λ op. Ok (record { opening = op; scripts = scene.scripts })) opening-same
+  where
+    opening-same : opening_of (items_told told scene.head) ≡ opening_with scene.head o.files.items o.layouts.items o.trust
+    opening-same =
+        (λ i. opening_with (heads-told told scene.head i) (sym opens.files i) (sym opens.layouts i) (sym opens.trust i))
+
+-- the header lines that were found
+pub heads-found : (found : Option (List ℕ)) (scene : Scene) → IsSceneOf found scene → heads_in (lines_found found) ≡ scene.head
+heads-found found scene is =
+    ap (λ f. heads_in (lines_found f)) is.read ∙ ap (λ ls. heads_in ls) (lines-said is.text scene is.says) ∙ scene-heads scene
+
+-- ---- the journal
+
+pub prints-legal : (hash : Hash) (o : Opening) (scripts : List (List Call)) (history : List Line) (text : List ℕ) → RunsSolo hash o scripts history
+    → text ≡ journal history (calls_in scripts) → PrintsLegal hash (record { opening = o; scripts = scripts }) text
+prints-legal hash o scripts history text runs printed = record {
+  history = history;
+  printed = printed;
+  sound = runs.sound;
+  only = λ other legal order. ordered_is_solo hash o scripts other legal order ∙ sym runs.is_solo;
+}
+
+pub goes-to : (hash : Hash) (goes : Result Run Status) (o : Opening) (scripts : List (List Call)) (history : List Line) (text : List ℕ)
+    → goes ≡ Ok (record { opening = o; scripts = scripts }) → RunsSolo hash o scripts history → text ≡ journal history (calls_in scripts) → GoesTo hash goes text
+goes-to hash goes o scripts history text is runs printed = record {
+  run = record { opening = o; scripts = scripts };
+  is = is;
+  same = printed ∙ ap (λ h. journal h (calls_in scripts)) runs.is_solo;
+  prints = prints-legal hash o scripts history text runs printed;
+}
+
+-- ---- the end of a run
+
+pub legal-run : (hash : Hash) (words : List (List ℕ)) (told : Told) (path : Option (List ℕ)) (before now : Option (List ℕ)) (text : List ℕ)
+    → path ≡ words_path words → GoesTo hash (run_by told path) text → now ≡ append_known before text → RunsLegal hash words told before now
+legal-run hash words told path before now text same goes wrote = record {
+  run = goes.run;
+  goes = ap (λ p. run_by told p) (sym same) ∙ goes.is;
+  text = text;
+  wrote = wrote;
+  prints = goes.prints;
+}

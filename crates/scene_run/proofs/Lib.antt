@@ -1,0 +1,10 @@
+pub mod DeclaredFacts
+pub mod OpenedFacts
+pub mod EndingFacts
+pub mod FileFacts
+pub mod NeedsFacts
+pub mod BoundFacts
+pub mod LinesFacts
+pub mod CauseFacts
+pub mod TurnFacts
+pub mod SoloFacts

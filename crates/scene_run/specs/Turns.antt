@@ -1,0 +1,30 @@
+-- Scripts one after another.
+use Rattle.std.specs.Prelude.{ℕ, ◌≡◌, ◌<◌, ◌+◌, List, [], ◌∷◌, ◌++◌, drop, All}
+use Rattle.std.specs.List.{AllByRecursion}
+use Rattle.pg_digest.specs.Kinds.{Hash}
+use Rattle.cs_policy.specs.declared.call.Call.{Call}
+use Rattle.pg_history.specs.Machine.{Line}
+use Rattle.pg_history.specs.Opening.{Numbers}
+use Rattle.pg_history.specs.Legal.{Scripted}
+use Rattle.pg_calls.specs.Parts.{PartsNow}
+use Rattle.pg_calls.specs.Scripts.{IsBy}
+
+-- the entries of the first of some scripts, which this worker plays, and those of the others
+pub record Turn (hash : Hash) (numbers : Numbers) (worker : ℕ) (script : List Call) (es own others : List Line) : Type 0 where
+  pub whole : es ≡ own ++ others
+  pub scripted : Scripted hash numbers worker 0 script own
+  pub by_worker : All (IsBy numbers worker) own
+
+-- The entries are those of the scripts, one script after another. The first script's worker has this number.
+abbrev pub InTurn : Hash → Numbers → ℕ → List (List Call) → List Line → Type 0
+InTurn hash numbers worker [] es = es ≡ []
+InTurn hash numbers worker (script ∷ scripts) es =
+    (own : List Line) × (others : List Line) × Turn hash numbers worker script es own others
+    × InTurn hash numbers (worker + 1) scripts others
+
+-- What the scripts before a place have added: whatever follows them as that of the rest, all of it is that of the scripts.
+pub record Turned (hash : Hash) (scripts : List (List Call)) (done : ℕ) (start now : PartsNow) : Type 0 where
+  pub own : List Line
+  pub made : now ≡ record start { made = start.made ++ own }
+  pub joins : (rest : List Line) → InTurn hash start.numbers done (drop done scripts) rest → InTurn hash start.numbers 0 scripts (own ++ rest)
+  pub earlier : AllByRecursion (λ e. e.entry.who.worker < done) own
