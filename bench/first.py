@@ -1,8 +1,8 @@
 #!/usr/bin/env python3
 """Times csrun on made scenes: 4,000 calls over a file of 256 pages, beside sha256sum over the bytes that are hashed.
 
-Run at the top of the repository after the gate, which leaves the program built. A scene of today's form has at most
-4,096 bytes and maps at most 16 pages, so the 4,000 calls go over 20 scenes of 200 calls each, all over one file.
+Run at the top of the repository after the gate, which leaves the program built. The 4,000 calls go over 20 scenes of 200
+calls each, all over one file.
 Prints one row: the calls, the events, the seconds and events a second of csrun, the seconds of sha256sum over as many
 bytes as csrun hashed, and the ratio of the two times. The best of five rounds counts for each.
 """

@@ -1,32 +1,17 @@
-//! `csrun SCENE` runs a scene over a signed file and prints its journal.
+//! `csrun SCENE` runs a scene over the files that it names and prints its journal.
 //!
-//! `top` has the top call, which does all that the program does and carries its promise; `main` hands it the
-//! real files and the real output. Below it, `ending` goes through the steps of a run: the words of the scene
-//! (`scene`, `lines`, `words`), its fit to the file (`opening`), the events of each call (`run`) over the parts
-//! of the machine (`file`, `process`, `region`, `event`), and the text of the history (`journal`).
+//! All that the program does is the top call of `scene_run`, which carries its promise; `main` hands it the real files and
+//! the real output.
 #![tactic(auto)]
-
-mod ending;
-mod event;
-mod file;
-mod journal;
-mod lines;
-mod opening;
-mod process;
-mod region;
-mod run;
-mod scene;
-mod top;
-mod words;
 
 use pg_bytes::{Status, arguments, code};
 use pg_io::{DiskFiles, StdoutSink};
+use scene_run::csrun_main;
 use std::alloc::AllocError;
 use std::env;
 use std::io::ErrorKind;
 use std::process::ExitCode;
 use std::rt::Env;
-pub use top::csrun_main;
 
 /// The words of the command line, of which the first names the program; none where one of them is no text. Want of
 /// memory is the only error.
@@ -55,8 +40,6 @@ fn main(rt: HostRuntime) -> ExitCode {
 }
 
 #[cfg(test)]
-mod samples;
-#[cfg(test)]
-mod scene_tests;
+mod rows;
 #[cfg(test)]
 mod tests;

@@ -1,41 +1,12 @@
-//! Whole runs over files in memory. The digests and cdhashes were made with Python's hashlib.
+//! Whole runs over files in memory.
 
-use crate::csrun_main;
-use crate::samples::DIRECTORIES;
-use pg_bytes::Status;
+use crate::rows::{CACHES, DIRECTORY, EARLY, LARGE_PAGES, SCENES, SMALL_PAGES};
+use cs_samples::{put, put_be32, thin_arm64};
+use pg_bytes::{Status, Which};
 use pg_io::{MemFiles, MemSink};
+use scene_run::csrun_main;
 use std::alloc::Global;
 use std::test::Fail;
-
-/// The code directory of three pages of bytes 0x41, 0x42 and 0x43.
-const DIRECTORY: &str =
-    "fade0c02000000ba00020400000200020000005a000000580000000000000003000030002002000c00000000000000000000000000000000000000000000000000000000000000000000000000003000000000000000000161006896d9ea3f73a4434f5832bc65714e7d066f177373f36f34dc8a6f735daa41b1725bcd6c66d02acf6ebeab9c92410e010ea22e336876256aaf05a211f4ce1902b23f99e1f653e62fa5bc14cc528a9ec3b6d11be482b2ee51b519d1d6ad8c5466";
-
-/// Its cdhash.
-const CDHASH: &str = "dd2875b1ed5de5cda3421fc7fe4869ab72113510";
-
-/// The first six lines of a journal over the sample.
-const BEGUN: &str = "\
-0 0.0 p0 start -> began 00001001
-1 0.1 p0 insert 0x10000 f0 0 3 r-x private -> inserted 0
-2 0.1 f0 addregion 0 p0 0 3 r-x private @1 -> added
-3 0.2 f0 readsig 0 -> read 186
-4 0.2 t lookup dd2875b1ed5de5cda3421fc7fe4869ab72113510 -> listed 0 0
-5 0.2 f0 addblob 0 dd2875b1ed5de5cda3421fc7fe4869ab72113510 @3 @4 -> attached 0
-";
-
-/// What follows a write of 0xff at the start of page 1, and faults on pages 1 and 2.
-const DENIED: &str = "\
-6 0.3 f0 write 4096 ff -> written 1
-7 0.4 p0 resolve 0x11000 x -> region 0 f0 1 00001001
-8 0.4 f0 enter 0 1 x 00001001 @7 -> denied mismatch 1 1 b3e4aef8662c0b68ddfdb42424ddaadc68ef96a20b0cb29139b02b4f74fb92ca 725bcd6c66d02acf6ebeab9c92410e010ea22e336876256aaf05a211f4ce1902
-9 0.4 p0 punish -> spare
-10 0.5 p0 resolve 0x12000 x -> region 0 f0 2 00001001
-11 0.5 f0 enter 0 2 x 00001001 @10 -> given
-";
-
-/// The lines of the script that `DENIED` tells of.
-const WRITE: &str = "write f0 4096 ff\nfault p0 0x11000 x\nfault p0 0x12000 x\n";
 
 /// How a run ended, and what it wrote.
 #[derive(Drop)]
@@ -44,250 +15,288 @@ struct Ended {
     text: Vec<u8>,
 }
 
-/// The reads that fail, the room of the sink, and its writes that fail.
+/// The reads that fail, how many bytes a write takes at most, and the writes that fail.
 #[derive(Clone, Copy)]
 struct Outside<'a> {
     reads: &'a [u64],
-    room: usize,
+    most: usize,
     writes: &'a [u64],
 }
 
 /// An outside without faults.
 const SOUND: Outside<'static> = Outside {
     reads: &[],
-    room: 65_536,
+    most: usize::MAX,
     writes: &[],
 };
 
-/// A scene over the file `f`, which maps so many pages, with these lines behind the file's attachment.
-fn scene(
-    alloc: Global,
-    signature: &str,
-    cdhash: &str,
-    pages: u32,
-    lines: &str,
-) -> Result<String, Fail> {
-    let text = format!(in alloc;
-        "scene 1\nraw f {signature}\nprocess enforce\nadmit {cdhash}\nscript\nspawn p0\nmap p0 0x10000 f0 0 {pages} r-x private\nattach f0 0\n{lines}"
-    )?;
-    Ok(text)
-}
-
-/// Pages of these bytes, followed by a directory that is given in hex.
+/// Pages of 4,096 bytes, each filled with one of these, and what is given in hex behind them.
 fn file(alloc: Global, pages: &[u8], directory: &str) -> Result<Vec<u8>, Fail> {
     let mut bytes = Vec::new(alloc);
-    for (i, byte) in pages.iter().enumerate() {
-        bytes.resize(4096 * i.min(16) + 4096, *byte)?;
+    for byte in pages {
+        let page = vec![in alloc; *byte; 4096]?;
+        bytes.extend_from_slice(&page)?;
     }
     let directory = hex::decode(alloc, directory)?;
     bytes.extend_from_slice(&directory)?;
     Ok(bytes)
 }
 
-/// Runs a scene over its file in memory.
-fn run(alloc: Global, scene: &str, bytes: Vec<u8>, outside: Outside) -> Result<Ended, Fail> {
-    let path = String::from_str(alloc, "s")?;
-    let words = vec![in alloc; path.clone()?]?;
-    let names = vec![in alloc; path, String::from_str(alloc, "f")?]?;
-    let contents = vec![in alloc; Vec::from_slice(alloc, scene.as_bytes())?, bytes]?;
-    let reads = Vec::from_slice(alloc, outside.reads)?;
+/// A fat file with the thin file at byte 4,096 and at byte 16,384.
+fn fat(alloc: Global) -> Result<Vec<u8>, Fail> {
+    let thin = thin_arm64(alloc)?;
+    let mut bytes = vec![in alloc; 0; 24904]?;
+    for (at, number) in [
+        (0, 0xcafe_babe),
+        (4, 2),
+        (8, 0x0100_000c),
+        (12, 0),
+        (16, 4096),
+        (20, 8520),
+        (24, 12),
+        (28, 0x0100_000c),
+        (32, 0),
+        (36, 16384),
+        (40, 8520),
+        (44, 14),
+    ] {
+        put_be32(&mut bytes, at, number);
+    }
+    put(&mut bytes, 4096, &thin);
+    put(&mut bytes, 16384, &thin);
+    Ok(bytes)
+}
+
+/// The thin file with the flags 0x20000 in its directory, without ADHOC.
+fn without_adhoc(alloc: Global) -> Result<Vec<u8>, Fail> {
+    let mut bytes = thin_arm64(alloc)?;
+    put_be32(&mut bytes, 8340, 0x0002_0000);
+    Ok(bytes)
+}
+
+/// The names of the sample files.
+fn names(alloc: Global) -> Result<Vec<String>, Fail> {
+    let mut names = Vec::new(alloc);
+    for name in ["A", "B", "Z", "E", "FAT", "BFLAGS", "C4", "C16"] {
+        names.push(String::from_str(alloc, name)?)?;
+    }
+    for (name, _) in CACHES {
+        names.push(String::from_str(alloc, name)?)?;
+    }
+    Ok(names)
+}
+
+/// Their bytes.
+fn contents(alloc: Global) -> Result<Vec<Vec<u8>>, Fail> {
+    let large = [0x41, 0x42, 0x43, 0x44, 0x45, 0x45, 0x45, 0x45];
+    let mut contents = Vec::new(alloc);
+    contents.push(file(alloc, &[0x41, 0x42, 0x43], DIRECTORY)?)?;
+    contents.push(thin_arm64(alloc)?)?;
+    contents.push(vec![in alloc; 0; 81920]?)?;
+    contents.push(Vec::new(alloc))?;
+    contents.push(fat(alloc)?)?;
+    contents.push(without_adhoc(alloc)?)?;
+    contents.push(file(alloc, &large, SMALL_PAGES)?)?;
+    contents.push(file(alloc, &large, LARGE_PAGES)?)?;
+    for (_, bytes) in CACHES {
+        contents.push(hex::decode(alloc, bytes)?)?;
+    }
+    Ok(contents)
+}
+
+/// Runs these words over the sample files, and the scene under the name `s`.
+fn run_words(alloc: Global, words: &[&str], scene: &str, outside: Outside) -> Result<Ended, Fail> {
+    let mut given = Vec::new(alloc);
+    for word in words {
+        given.push(String::from_str(alloc, word)?)?;
+    }
+    let mut names = names(alloc)?;
+    let mut contents = contents(alloc)?;
+    names.push(String::from_str(alloc, "s")?)?;
+    contents.push(Vec::from_slice(alloc, scene.as_bytes())?)?;
+    if names.len() != contents.len() {
+        return Err(Fail::new("a sample file has no name, or a name no file"));
+    }
+    let mut files = MemFiles::new(names, contents, Vec::from_slice(alloc, outside.reads)?);
     let writes = Vec::from_slice(alloc, outside.writes)?;
-    let mut files = MemFiles::new(names, contents, reads);
-    let mut out = MemSink::open(alloc, outside.room, usize::MAX, writes)?;
-    let status = csrun_main(alloc, &words, &mut files, &mut out);
+    let mut out = MemSink::open(alloc, 1_048_576, outside.most.max(1), writes)?;
+    let status = csrun_main(alloc, &given, &mut files, &mut out);
     let text = Vec::from_slice(alloc, out.bytes())?;
     Ok(Ended { status, text })
 }
 
-/// Runs these lines over the sample, of which so many pages are mapped.
-fn run_sample(alloc: Global, pages: u32, lines: &str) -> Result<Ended, Fail> {
-    let scene = scene(alloc, "12288 186", CDHASH, pages, lines)?;
-    run(
-        alloc,
-        &scene,
-        file(alloc, &[0x41, 0x42, 0x43], DIRECTORY)?,
-        SOUND,
-    )
+/// Runs a scene.
+fn run(alloc: Global, scene: &str) -> Result<Ended, Fail> {
+    run_words(alloc, &["s"], scene, SOUND)
 }
 
 #[test]
 fn worked_scenes(rt: HostRuntime) -> Result<(), Fail> {
     let alloc = rt.alloc();
-    let again = "write f0 4096 42\nfault p0 0x11000 x\n";
-    let granted = "\
-12 0.6 f0 write 4096 42 -> written 1
-13 0.7 p0 resolve 0x11000 x -> region 0 f0 1 00001001
-14 0.7 f0 enter 0 1 x 00001001 @13 -> given
-";
-    for (lines, journal, summary) in [
-        ("", "", "events 6\ncalls 3\ngiven 0\ndenied 0\n"),
-        (
-            "fault p0 0x11000 x\n",
-            "6 0.3 p0 resolve 0x11000 x -> region 0 f0 1 00001001\n7 0.3 f0 enter 0 1 x 00001001 @6 -> given\n",
-            "events 8\ncalls 4\ngiven 1\ndenied 0\n",
-        ),
+    for (what, scene, journal) in SCENES {
+        let ended = run(alloc, scene)?;
+        assert_eq!(rt; ended.status, Status::Done, "{what}");
+        assert_eq!(rt; ended.text.as_slice(), journal.as_bytes(), "{what}");
+        let alone = run_words(alloc, &["solo", "s"], scene, SOUND)?;
+        assert_eq!(rt; alone.status, Status::Done, "{what}");
+        assert_eq!(rt; alone.text.as_slice(), journal.as_bytes(), "{what}");
+    }
+    Ok(())
+}
+
+#[test]
+fn early_ends(rt: HostRuntime) -> Result<(), Fail> {
+    let alloc = rt.alloc();
+    for (what, scene, status, line) in EARLY {
+        let ended = run(alloc, scene)?;
+        assert_eq!(rt; ended.status, status, "{what}");
+        assert_eq!(rt; ended.text.as_slice(), line.as_bytes(), "{what}");
+    }
+    Ok(())
+}
+
+#[test]
+fn words_of_other_forms(rt: HostRuntime) -> Result<(), Fail> {
+    let alloc = rt.alloc();
+    let usage = b"usage: csrun SCENE | csrun solo SCENE | csrun gen N\n";
+    let forms: [&[&str]; 4] = [&[], &["gen", "0"], &["so", "s"], &["solo", "s", "s"]];
+    for words in forms {
+        let ended = run_words(alloc, words, "scene 1\n", SOUND)?;
+        assert_eq!(rt; ended.status, Status::Usage);
+        assert_eq!(rt; ended.text.as_slice(), usage.as_slice());
+    }
+    Ok(())
+}
+
+/// The lines of a scene before a repeated line, the line, how often it stands, and the limit that is passed.
+const LIMITS: [(&str, &str, u32, Which, u64, &str); 9] = [
+    (
+        "process none\nscript\n",
+        "spawn p0\n",
+        4097,
+        Which::Calls,
+        4096,
+        "calls",
+    ),
+    ("", "script\n", 9, Which::Workers, 8, "workers"),
+    ("", "file B\n", 17, Which::Files, 16, "files"),
+    ("", "process none\n", 65, Which::Processes, 64, "processes"),
+    ("", "static T\n", 65, Which::Statics, 64, "statics"),
+    ("", "cache T\n", 65, Which::Caches, 64, "caches"),
+    ("file B\n", "fail f0 1\n", 65, Which::Fails, 64, "fails"),
+    (
+        "file B\nscript\n",
+        "attach f0 0\n",
+        65,
+        Which::Attaches,
+        64,
+        "attaches",
+    ),
+    (
+        "",
+        "# none of the language's lines\n",
+        40_000,
+        Which::Scene,
+        1_048_576,
+        "scene",
+    ),
+];
+
+#[test]
+fn limits(rt: HostRuntime) -> Result<(), Fail> {
+    let alloc = rt.alloc();
+    for (before, line, count, which, number, word) in LIMITS {
+        let mut scene = format!(in alloc; "scene 1\n{before}")?;
+        for _ in 0..count {
+            scene.push_str(line)?;
+        }
+        let ended = run(alloc, &scene)?;
+        let text = format!(in alloc; "csrun: limit {word} {number}\n")?;
+        assert_eq!(rt; ended.status, Status::Limit { which, number }, "{word}");
+        assert_eq!(rt; ended.text.as_slice(), text.as_bytes(), "{word}");
+    }
+    Ok(())
+}
+
+#[test]
+fn one_less_than_the_limits(rt: HostRuntime) -> Result<(), Fail> {
+    let alloc = rt.alloc();
+    for (before, line, count) in [
+        ("process none\nscript\n", "spawn p0\n", 4096),
+        ("", "script\n", 8),
+        ("", "file B\n", 16),
+        ("", "process none\n", 64),
+        ("", "static T\n", 64),
+        ("", "cache T\n", 64),
+        ("file B\n", "fail f0 1\n", 64),
+        ("file B\nscript\n", "attach f0 0\n", 64),
     ] {
-        let done = run_sample(alloc, 3, lines)?;
-        let text = format!(in alloc; "{BEGUN}{journal}{summary}")?;
-        assert_eq!(rt; done.status, Status::Done);
-        assert_eq!(rt; done.text.as_slice(), text.as_bytes());
+        let mut scene = format!(in alloc; "scene 1\n{before}")?;
+        for _ in 0..count {
+            scene.push_str(line)?;
+        }
+        assert_eq!(rt; run(alloc, &scene)?.status, Status::Done, "{line}");
     }
-    let done = run_sample(alloc, 3, WRITE)?;
-    let text = format!(in alloc; "{BEGUN}{DENIED}events 12\ncalls 6\ngiven 1\ndenied 1\n")?;
-    assert_eq!(rt; done.text.as_slice(), text.as_bytes(), "a write is denied");
-    let both = format!(in alloc; "{WRITE}{again}")?;
-    let done = run_sample(alloc, 3, &both)?;
-    let text = format!(in alloc;
-        "{BEGUN}{DENIED}{granted}events 15\ncalls 8\ngiven 2\ndenied 1\n"
-    )?;
-    assert_eq!(rt;
-        done.text.as_slice(),
-        text.as_bytes(),
-        "the write back is given"
-    );
     Ok(())
 }
 
 #[test]
-fn page_without_directory_is_unsigned(rt: HostRuntime) -> Result<(), Fail> {
-    let done = run_sample(rt.alloc(), 4, "fault p0 0x13fff x\n")?;
-    let end =
-        b"7 0.3 f0 enter 0 3 x 00001001 @6 -> denied unsigned 3\n8 0.3 p0 punish -> spare\nevents 9\ncalls 4\ngiven 0\ndenied 1\n";
-    assert_eq!(rt; done.status, Status::Done);
-    assert!(rt; done.text.as_slice().ends_with(end));
-    Ok(())
-}
-
-#[test]
-fn refused_lines(rt: HostRuntime) -> Result<(), Fail> {
+fn reads_that_fail(rt: HostRuntime) -> Result<(), Fail> {
     let alloc = rt.alloc();
-    for (pages, lines, line) in [
-        (3, "unmap p0 0x10000\n", 9),
-        (5, "", 7),
-        (3, "fault p0 0x10000 x\nwrite f0 12474 00\n", 10),
-        (3, "fault p0 0x13000 x\n", 9),
-    ] {
-        let ended = run_sample(alloc, pages, lines)?;
-        let text = format!(in alloc; "csrun: line {line}: notyet\n")?;
-        assert_eq!(rt; ended.status, Status::SceneBad { line, kind: 9 });
-        assert_eq!(rt; ended.text.as_slice(), text.as_bytes());
-    }
-    let last = run_sample(alloc, 3, "write f0 12473 00\n")?;
-    assert_eq!(rt; last.status, Status::Done, "the last byte can be written");
-    Ok(())
-}
-
-#[test]
-fn refused_signatures(rt: HostRuntime) -> Result<(), Fail> {
-    let alloc = rt.alloc();
-    for len in 0..186 {
-        let signature = format!(in alloc; "12288 {len}")?;
-        let scene = scene(alloc, &signature, CDHASH, 3, "")?;
-        let bytes = file(alloc, &[0x41, 0x42, 0x43], DIRECTORY)?;
-        let ended = run(alloc, &scene, bytes, SOUND)?;
-        assert_eq!(rt;
-            ended.status,
-            Status::SceneBad { line: 2, kind: 9 },
-            "{len} bytes"
-        );
-    }
-    for (signature, cdhash, line) in [
-        ("12288 187", CDHASH, 2),
-        ("12289 186", CDHASH, 2),
-        ("18446744073709551615 186", CDHASH, 2),
-        ("12288 18446744073709551615", CDHASH, 2),
-        ("12288 186", "dd2875b1ed5de5cda3421fc7fe4869ab72113511", 4),
-    ] {
-        let scene = scene(alloc, signature, cdhash, 3, "")?;
-        let bytes = file(alloc, &[0x41, 0x42, 0x43], DIRECTORY)?;
-        let ended = run(alloc, &scene, bytes, SOUND)?;
-        assert_eq!(rt;
-            ended.status,
-            Status::SceneBad { line, kind: 9 },
-            "{signature}"
-        );
-    }
-    Ok(())
-}
-
-#[test]
-fn versions_and_hash_types(rt: HostRuntime) -> Result<(), Fail> {
-    let alloc = rt.alloc();
-    for (name, directory, cdhash) in DIRECTORIES {
-        let signature = format!(in alloc; "4096 {}", directory.len() / 2)?;
-        let scene = scene(alloc, &signature, cdhash, 1, "fault p0 0x10000 x\n")?;
-        let done = run(alloc, &scene, file(alloc, &[0x41], directory)?, SOUND)?;
-        assert_eq!(rt; done.status, Status::Done, "{name}");
-        let end = b"@6 -> given\nevents 8\ncalls 4\ngiven 1\ndenied 0\n";
-        assert!(rt; done.text.as_slice().ends_with(end), "{name}");
-    }
-    Ok(())
-}
-
-#[test]
-fn faults_of_files_and_sink(rt: HostRuntime) -> Result<(), Fail> {
-    let alloc = rt.alloc();
-    let scene = scene(alloc, "12288 186", CDHASH, 3, "fault p0 0x11000 x\n")?;
-    for (read, item) in [(1, 0), (2, 1)] {
-        let bytes = file(alloc, &[0x41, 0x42, 0x43], DIRECTORY)?;
-        let ended = run(
-            alloc,
-            &scene,
-            bytes,
-            Outside {
-                reads: &[read],
-                ..SOUND
-            },
-        )?;
+    let (_, scene, _) = SCENES[0];
+    for (read, item) in [(1, 0), (2, 1), (3, 2)] {
+        let outside = Outside {
+            reads: &[read],
+            ..SOUND
+        };
+        let ended = run_words(alloc, &["s"], scene, outside)?;
         let text = format!(in alloc; "csrun: cannot read item {item}\n")?;
         assert_eq!(rt; ended.status, Status::FileFault { item });
         assert_eq!(rt; ended.text.as_slice(), text.as_bytes());
     }
-    for (room, writes, sent) in [
-        (65_536, [1].as_slice(), 0),
-        (0, [].as_slice(), 0),
-        (1, [].as_slice(), 1),
-        (100, [].as_slice(), 100),
-        (300, [].as_slice(), 300),
-        (300, [2].as_slice(), 300),
-    ] {
-        let bytes = file(alloc, &[0x41, 0x42, 0x43], DIRECTORY)?;
-        let ended = run(
-            alloc,
-            &scene,
-            bytes,
-            Outside {
-                room,
-                writes,
-                ..SOUND
-            },
-        )?;
-        assert_eq!(rt; ended.status, Status::SinkFault, "room for {room}");
-        assert_eq!(rt; ended.text.len(), sent, "room for {room}");
-        assert!(rt;
-            BEGUN.as_bytes().starts_with(ended.text.as_slice()),
-            "room for {room}"
-        );
-    }
+    let gone = run_words(alloc, &["gone"], scene, SOUND)?;
+    assert_eq!(rt; gone.status, Status::FileFault { item: 0 });
     Ok(())
 }
 
 #[test]
-fn wrong_words(rt: HostRuntime) -> Result<(), Fail> {
+fn sink_of_one_byte_a_write(rt: HostRuntime) -> Result<(), Fail> {
     let alloc = rt.alloc();
-    let mut files = MemFiles::new(Vec::new(alloc), Vec::new(alloc), Vec::new(alloc));
-    let usage = b"usage: csrun SCENE | csrun solo SCENE | csrun gen N\n".as_slice();
-    for count in [0, 2, 3] {
-        let mut words = Vec::new(alloc);
-        for _ in 0..count {
-            words.push(String::from_str(alloc, "solo")?)?;
-        }
-        let mut out = MemSink::open(alloc, 100, 100, Vec::new(alloc))?;
-        assert_eq!(rt;
-            csrun_main(alloc, &words, &mut files, &mut out),
-            Status::Usage
-        );
-        assert_eq!(rt; out.bytes(), usage, "{count} words");
+    let (_, scene, journal) = SCENES[0];
+    let outside = Outside { most: 1, ..SOUND };
+    let whole = run_words(alloc, &["solo", "s"], scene, outside)?;
+    assert_eq!(rt; whole.status, Status::Done);
+    assert_eq!(rt; whole.text.as_slice(), journal.as_bytes());
+    let outside = Outside {
+        most: 1,
+        writes: &[10],
+        ..SOUND
+    };
+    let part = run_words(alloc, &["solo", "s"], scene, outside)?;
+    assert_eq!(rt; part.status, Status::SinkFault);
+    assert_eq!(rt; part.text.as_slice(), b"0 0.0 t l".as_slice());
+    Ok(())
+}
+
+/// The pager call that fails, and the journal's line of it.
+const PAGER_CALLS: [(u32, &str); 4] = [
+    (1, "3 0.2 f0 readsig 0 -> pagerfault 3\n"),
+    (2, "7 0.3 f0 enter 0 0 x 00001001 @6 -> pagerfault 0\n"),
+    (3, "9 0.4 f0 enter 0 1 x 00001001 @8 -> pagerfault 1\n"),
+    (4, "11 0.5 f0 enter 0 2 x 00001001 @10 -> pagerfault 2\n"),
+];
+
+#[test]
+fn pager_calls_that_fail_in_turn(rt: HostRuntime) -> Result<(), Fail> {
+    let alloc = rt.alloc();
+    for (call, line) in PAGER_CALLS {
+        let scene = format!(in alloc;
+            "scene 1\nraw A 12288 186\nfail f0 {call}\nprocess enforce\nadmit dd2875b1ed5de5cda3421fc7fe4869ab72113510\nscript\nspawn p0\nmap p0 0x10000 f0 0 3 r-x private\nattach f0 0\nfault p0 0x10000 x\nfault p0 0x11000 x\nfault p0 0x12000 x\n"
+        )?;
+        let ended = run(alloc, &scene)?;
+        let text = str::from_utf8(&ended.text)?;
+        assert_eq!(rt; ended.status, Status::Done);
+        assert!(rt; text.contains(line), "{call}");
     }
     Ok(())
 }

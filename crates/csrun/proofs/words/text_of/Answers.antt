@@ -1,6 +1,0 @@
-use Rattle.std.proofs.lemmas.Str.{IsUtf8-from_ascii}
-use Rattle.csrun.proofs.WordFacts.{ok_from_cases}
-use Rattle.csrun.proofs.words.text_of.Goals as goal
-
-pub unwrap-requires : goal.unwrap-requires
-unwrap-requires c = ok_from_cases c.from_utf8.result _ _ _ c.from_utf8.ensures.cases (IsUtf8-from_ascii c.args.word.now c.requires)
