@@ -27,6 +27,4 @@ pub use scripts::{Calls, Scripts};
 pub use whole::{Scene, SceneFail};
 
 #[cfg(test)]
-mod line_tests;
-#[cfg(test)]
 mod tests;
