@@ -1,3 +1,4 @@
 pub mod PageFacts
 pub mod ReportFacts
+pub mod ShareFacts
 pub mod TextFacts

@@ -1,5 +1,5 @@
 -- How the list of pages that do not match grows from page to page.
-use Rattle.std.proofs.Common.{◌≡◌, ℕ, suc, ◌+◌, ◌-◌, ◌<◌, ◌≤◌, List, [], ◌∷◌, ◌++◌, Option, Some, None, ◌*◌, Bool, true, false, cond, min, nat_lt, ◌⊎◌, inl, inr, refl, sym, ◌∙◌, arith}
+use Rattle.std.proofs.Common.{◌≡◌, ℕ, suc, ◌+◌, ◌-◌, ◌<◌, ◌≤◌, List, [], ◌∷◌, ◌++◌, Option, Some, None, ◌*◌, Bool, true, false, cond, min, max, nat_lt, ◌⊎◌, inl, inr, refl, sym, ◌∙◌, arith}
 use Rattle.std.specs.List.{filter_map, cons_option, range_with_len}
 use Rattle.std.specs.Int.{div_ceil}
 use Rattle.std.proofs.lemmas.Bool.Decides.{nat_tests}
@@ -44,6 +44,18 @@ min_by_test slots page true e = let lt : page < slots = grind (arith, nat_tests)
 min_by_test slots page false e = let le : slots ≤ page = grind (arith, nat_tests) in grind arith
 
 -- one page more, which is hashed where it has a slot
-pub hashed-next : (slots page start before now : ℕ) → RoseBy (min slots page) start before → RoseBy (cond (nat_lt page slots) 1 0) before now → RoseBy (min slots (page + 1)) start now
-hashed-next slots page start before now known here =
-    rw (min_by_test slots page (nat_lt page slots) refl) (RoseBy-join (min slots page) (cond (nat_lt page slots) 1 0) start before now known here)
+pub hashed-next : (slots from page start before now : ℕ) → from ≤ page → RoseBy (min slots page - min slots from) start before → RoseBy (cond (nat_lt page slots) 1 0) before now → RoseBy (min slots (page + 1) - min slots from) start now
+hashed-next slots from page start before now le known here =
+    let next = min_by_test slots page (nat_lt page slots) refl in
+    let more : min slots (page + 1) - min slots from ≡ (min slots page - min slots from) + cond (nat_lt page slots) 1 0 = omega arith in
+    rw more (RoseBy-join (min slots page - min slots from) (cond (nat_lt page slots) 1 0) start before now known here)
+
+-- at the end of the loop
+pub hashed-all : (slots from to page start now : ℕ) → from ≤ page → page ≤ max from to → to ≤ page → RoseBy (min slots page - min slots from) start now → RoseBy (min slots to - min slots from) start now
+hashed-all slots from to page start now begun within end known =
+    let same : min slots page - min slots from ≡ min slots to - min slots from = omega arith in
+    rw same at known
+
+-- those from the first page on
+pub slotted-all : (slots pages : ℕ) → min slots pages - min slots 0 ≡ min slots pages
+slotted-all slots pages = omega arith

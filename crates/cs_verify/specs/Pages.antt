@@ -1,6 +1,6 @@
 -- The hash pages of an image, held against the slots of a code directory.
 -- Source: XNU's `cs_blobs.h` and `ubc_subr.c` (cs_validate_hash); Apple TN3126.
-use Rattle.std.specs.Prelude.{ℕ, ◌*◌, List, take, drop, Option, Some, None, min, nat_eq, nat_lt, if◌then◌else◌}
+use Rattle.std.specs.Prelude.{ℕ, ◌-◌, ◌*◌, List, take, drop, Option, Some, None, min, nat_eq, nat_lt, if◌then◌else◌}
 use Rattle.std.specs.List.{range_with_len, filter_map}
 use Rattle.std.specs.Int.{div_ceil}
 use Rattle.std.specs.Cmp.Lexicographic.{pointwise}
@@ -22,6 +22,10 @@ pages_of directory = page_count (bytes_of directory.page) directory.limit
 abbrev pub slotted_pages : Fields → ℕ
 slotted_pages directory = min directory.code_slots (pages_of directory)
 
+-- how many hash pages from one number on, below another, have a slot
+abbrev pub slotted_between : Fields → ℕ → ℕ → ℕ
+slotted_between directory from to = min directory.code_slots to - min directory.code_slots from
+
 -- the bytes of one hash page of a size of those that are signed: so many, or for the last page those that are left
 unfoldable pub hash_page : ℕ → List ℕ → ℕ → List ℕ
 hash_page size signed page = take size (drop (page * size) signed)
@@ -39,7 +43,12 @@ bad_page hash directory directory_bytes signed page =
     then mismatch page (hash directory.kind (hash_page (bytes_of directory.page) signed page)) (slot_at directory_bytes page)
     else Some (record { page = page; found = None; wanted = None })
 
+-- of the hash pages from one number on, below another, those with which something is wrong, ascending
+unfoldable pub bad_between : Hash → Fields → List ℕ → List ℕ → ℕ → ℕ → List BadPage
+bad_between hash directory directory_bytes signed from to =
+    filter_map (bad_page hash directory directory_bytes signed) (range_with_len from (to - from))
+
 -- all hash pages below the limit with which something is wrong, ascending
 unfoldable pub bad_pages : Hash → Fields → List ℕ → List ℕ → List BadPage
 bad_pages hash directory directory_bytes image =
-    filter_map (bad_page hash directory directory_bytes (take directory.limit image)) (range_with_len 0 (pages_of directory))
+    bad_between hash directory directory_bytes (take directory.limit image) 0 (pages_of directory)

@@ -4,7 +4,7 @@ ghost use Rattle.std.specs.Prelude.{◌≡◌, ◌*◌, ◌<◌, ◌≤◌, IfOk
 ghost use Rattle.pg_bytes.specs.Counts.{RoseBy};
 ghost use Rattle.cs_directory.specs.Directory.{IsDirectory};
 ghost use Rattle.cs_directory.specs.HashPages.{bytes_of};
-ghost use Rattle.cs_verify.specs.Pages.{hash_page, pages_of, slotted_pages, bad_pages};
+ghost use Rattle.cs_verify.specs.Pages.{hash_page, pages_of, slotted_pages, slotted_between, bad_between, bad_pages};
 ghost use Rattle.cs_verify.specs.Pages as pages;
 
 use crate::report::BadPage;
@@ -35,8 +35,38 @@ pub fn bad_pages<D: Digester>(
         (RoseBy (slotted_pages directory.now) (D.calls d.old) (D.calls d.new)) }
 {
     let signed = &image[..directory.limit() as usize];
+    bad_between(
+        alloc,
+        directory,
+        directory_bytes,
+        signed,
+        0,
+        pages_of(directory),
+        d,
+    )
+}
+
+/// Of the hash pages from one number on, below another, those that do not match or have no slot, ascending. Each that
+/// has a slot is hashed once.
+pub fn bad_between<D: Digester>(
+    alloc: Global,
+    directory: &Directory,
+    directory_bytes: &[u8],
+    signed: &[u8],
+    from: u64,
+    to: u64,
+    d: &mut D,
+) -> Result<Vec<BadPage>, AllocError>
+    requires directory { IsDirectory directory_bytes.now directory.now }
+    requires signed { length signed.now ≡ directory.now.limit }
+    requires within { to ≤ pages_of directory.now }
+    ensures bad { IfOk result (λ bad. bad.items ≡
+        bad_between D.hash directory.now directory_bytes.now signed.now from to) }
+    ensures digests { OnOk result
+        (RoseBy (slotted_between directory.now from to) (D.calls d.old) (D.calls d.new)) }
+{
     let mut bad = Vec::new(alloc);
-    for page in 0..pages_of(directory) {
+    for page in from..to {
         if let Some(wrong) = bad_page(directory, directory_bytes, signed, page, d) {
             bad.push(wrong)?;
         }

@@ -8,12 +8,12 @@ ghost use Rattle.csverify.specs.Words.{IsShort};
 ghost use Rattle.csverify.specs.Ending as endings;
 ghost use Rattle.csverify.specs.Ending.{verified, of_file, of_path, named, reported, told_beside, TellsEither, IsCaused};
 
+use crate::reporter::Reporter;
 use clap::Error;
 use clap::error::ErrorKind;
 use cs_policy::Refusal;
-use cs_verify::{SliceReport, VerifyFail, all_match, verify, verify_text};
+use cs_verify::{SliceReport, VerifyFail, all_match, verify_text};
 use pg_bytes::{Status, Which};
-use pg_digest::ShaDigester;
 use pg_io::{Files, ReadFail};
 use std::alloc::{AllocError, Global};
 use std::marker::Model;
@@ -124,11 +124,11 @@ fn reported(alloc: Global, reports: &[SliceReport]) -> Result<Ending, AllocError
 }
 
 /// The run over a file's bytes.
-fn verified(alloc: Global, bytes: &[u8]) -> Result<Ending, AllocError>
+fn verified<V: Reporter>(alloc: Global, bytes: &[u8], reporter: &V) -> Result<Ending, AllocError>
+    requires ready { V.ready reporter.now }
     ensures { IfOk result (λ e. e ≡ verified sha_hash bytes.now) }
 {
-    let mut digester = ShaDigester::new();
-    match verify(alloc, bytes, &mut digester) {
+    match reporter.report(alloc, bytes) {
         Ok(reports) => reported(alloc, &reports),
         Err(VerifyFail::Refused(refusal)) => refused(alloc, refusal.into()),
         Err(VerifyFail::NoMemory) => Err(AllocError),
@@ -136,17 +136,24 @@ fn verified(alloc: Global, bytes: &[u8]) -> Result<Ending, AllocError>
 }
 
 /// The run over the first bytes of a file, of which there are at most one more than it may have.
-fn after_file(alloc: Global, bytes: &[u8]) -> Result<Ending, AllocError>
+fn after_file<V: Reporter>(alloc: Global, bytes: &[u8], reporter: &V) -> Result<Ending, AllocError>
+    requires ready { V.ready reporter.now }
     ensures { IfOk result (λ e. e ≡ of_file sha_hash (Some bytes.now)) }
 {
     if bytes.len() as u64 > MOST {
         return Ok(too_large());
     }
-    verified(alloc, bytes)
+    verified(alloc, bytes, reporter)
 }
 
 /// The run over the file of this path.
-fn after_path<F: Files>(alloc: Global, files: &mut F, path: &str) -> Result<Ending, AllocError>
+fn after_path<F: Files, V: Reporter>(
+    alloc: Global,
+    files: &mut F,
+    path: &str,
+    reporter: &V,
+) -> Result<Ending, AllocError>
+    requires ready { V.ready reporter.now }
     ensures told { (told : Told) → F.tells files.old ≡ Some told →
         IfOk result (λ e. e ≡ of_file sha_hash (next_read told path.now)) }
     ensures read { (told : Told) → F.tells files.old ≡ Some told →
@@ -160,7 +167,7 @@ fn after_path<F: Files>(alloc: Global, files: &mut F, path: &str) -> Result<Endi
     match files.read(alloc, path, MOST + 1) {
         Err(ReadFail::NoMemory) => Err(AllocError),
         Err(ReadFail::Failed) => Ok(unread()),
-        Ok(bytes) => after_file(alloc, &bytes),
+        Ok(bytes) => after_file(alloc, &bytes, reporter),
     }
 }
 
@@ -176,11 +183,13 @@ fn after_error(error: &Error) -> Result<Ending, AllocError>
 }
 
 /// How the run ends for which the command line gave this path, or this error.
-pub fn ended<F: Files>(
+pub fn ended<F: Files, V: Reporter>(
     alloc: Global,
     path: Result<&str, Error>,
     files: &mut F,
+    reporter: &V,
 ) -> Result<Ending, AllocError>
+    requires ready { V.ready reporter.now }
     ensures told { (told : Told) → F.tells files.old ≡ Some told →
         IfOk result (λ e. e ≡ of_path sha_hash told (named path.entry)) }
     ensures read { (told : Told) → F.tells files.old ≡ Some told →
@@ -200,7 +209,7 @@ pub fn ended<F: Files>(
     ensures no_fault { OnErr result (F.faults files.new ≡ F.faults files.old) }
 {
     match path {
-        Ok(path) => after_path(alloc, files, path),
+        Ok(path) => after_path(alloc, files, path, reporter),
         Err(error) => after_error(&error),
     }
 }

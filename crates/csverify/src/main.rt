@@ -1,10 +1,12 @@
 //! `csverify PATH` reports each slice of a Mach-O or fat file, and each page that does not match its slot.
 //!
-//! `top` has the top call, which does all that the program does and carries its promise; `main` hands it the real
-//! files and the real output. Below it, `ending` goes through the steps of a run, and `words` reads the command line.
+//! `top` has the top calls, which do all that the program does and carry its promise: `main` hands `csverify_on` the
+//! runtime, the real files and the real output, and `csverify_main` does the same on one thread. Below them, `ending`
+//! goes through the steps of a run, `words` reads the command line, and `reporter` makes the report of the file.
 #![tactic(auto)]
 
 mod ending;
+mod reporter;
 mod top;
 mod words;
 
@@ -15,7 +17,7 @@ use std::env;
 use std::io::ErrorKind;
 use std::process::ExitCode;
 use std::rt::Env;
-pub use top::csverify_main;
+pub use top::{csverify_main, csverify_on};
 
 /// The words of the command line, of which the first names the program; none where one of them is no text. Want of
 /// memory is the only error.
@@ -39,7 +41,7 @@ fn main(rt: HostRuntime) -> ExitCode {
     };
     let mut files = DiskFiles::new(&rt);
     let mut out = StdoutSink::new(&rt);
-    let status = csverify_main(rt.alloc(), arguments(&words), &mut files, &mut out);
+    let status = csverify_on(&rt, rt.alloc(), arguments(&words), &mut files, &mut out);
     ExitCode::from(code(&status))
 }
 

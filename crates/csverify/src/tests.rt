@@ -1,6 +1,6 @@
 //! Whole runs over files in memory. The digests and the cdhash were made with Python's hashlib.
 
-use crate::csverify_main;
+use crate::{csverify_main, csverify_on};
 use cs_samples::{put, thin_arm64, thin_large_pages};
 use pg_bytes::{Status, Which};
 use pg_io::{MemFiles, MemSink};
@@ -219,6 +219,36 @@ fn largest_file(rt: HostRuntime) -> Result<(), Fail> {
         let ended = run_path(alloc, bytes, SOUND)?;
         assert_eq!(rt; ended.status, status, "{length} bytes");
         assert_eq!(rt; ended.text.as_slice(), text.as_bytes(), "{length} bytes");
+    }
+    Ok(())
+}
+
+/// The call of `main` on a file that is sealed, one that is not, and one that is not there.
+#[test]
+fn on_all_processors(rt: HostRuntime) -> Result<(), Fail> {
+    let alloc = rt.alloc();
+    let mut changed = thin_arm64(alloc)?;
+    put(&mut changed, 4096, &[0x21]);
+    let names = vec![in alloc;
+        String::from_str(alloc, "sealed")?,
+        String::from_str(alloc, "changed")?,
+    ]?;
+    let contents = vec![in alloc; thin_arm64(alloc)?, changed]?;
+    let mut files = MemFiles::new(names, contents, Vec::new(alloc));
+    for (name, wanted, text) in [
+        ("sealed", Status::Done, SEALED),
+        ("changed", Status::NotSealed, CHANGED),
+        (
+            "none",
+            Status::FileFault { item: 0 },
+            "csverify: cannot read\n",
+        ),
+    ] {
+        let words = vec![in alloc; String::from_str(alloc, name)?]?;
+        let mut out = MemSink::open(alloc, 4096, usize::MAX, Vec::new(alloc))?;
+        let status = csverify_on(&rt, alloc, &words, &mut files, &mut out);
+        assert_eq!(rt; status, wanted, "{name}");
+        assert_eq!(rt; out.bytes(), text.as_bytes(), "{name}");
     }
     Ok(())
 }

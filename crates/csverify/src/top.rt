@@ -1,25 +1,28 @@
 //! The top call: all that the program does.
 
-ghost use Rattle.std.specs.Prelude.{◌≡◌, ◌≢◌, ℕ, map, Some, None, IfOk, OnOk, OnErr, IsTrue, string_bytes};
-ghost use Rattle.pg_bytes.specs.Counts.{Rose};
-ghost use Rattle.pg_bytes.specs.declared.Which.TheVariants.{FileBytes};
+ghost use Rattle.std.specs.Prelude.{◌≡◌, map, Some, None, IfOk, OnOk, OnErr, string_bytes};
 ghost use Rattle.pg_digest.specs.Digests.{sha_hash};
 ghost use Rattle.pg_io.specs.Files.{Told};
 ghost use Rattle.csverify.specs.Words.{path_of, is_refused};
-ghost use Rattle.csverify.specs.Ending.{most, ending_of, file_of, told_after, IsVerdictOf, TellsEither, Ends, EndsByWords, IsCaused, Says};
+ghost use Rattle.csverify.specs.Ending.{ending_of, told_after, TellsEither, IsCaused};
+ghost use Rattle.csverify.specs.Run.{outside, IsRun};
 
 use crate::ending::{Ending, ended};
+use crate::reporter::{InTurn, OnThreads, Reporter};
 use crate::words::path_of;
 use pg_bytes::Status;
 use pg_io::{Files, Sink, write_whole};
 use std::alloc::{AllocError, Global};
+use std::thread::Threads;
 
 /// How the run of these words ends.
-fn after_words<F: Files>(
+fn after_words<F: Files, V: Reporter>(
     alloc: Global,
     words: &[String],
     files: &mut F,
+    reporter: &V,
 ) -> Result<Ending, AllocError>
+    requires ready { V.ready reporter.now }
     ensures told { (told : Told) → F.tells files.old ≡ Some told →
         IfOk result (λ e. e ≡ ending_of sha_hash (map string_bytes words.now) told) }
     ensures read { (told : Told) → F.tells files.old ≡ Some told →
@@ -32,7 +35,7 @@ fn after_words<F: Files>(
         (F.faults files.old) (F.faults files.new) e.status e.text) }
     ensures no_fault { OnErr result (F.faults files.new ≡ F.faults files.old) }
 {
-    ended(alloc, path_of(alloc, words), files)
+    ended(alloc, path_of(alloc, words), files, reporter)
 }
 
 /// Runs `csverify` with these words, which do not name the program: one word is the path of a file, and the report on
@@ -49,45 +52,46 @@ pub fn csverify_main<F: Files, K: Sink>(
     files: &mut F,
     out: &mut K,
 ) -> Status
-    // Status and output are those that the words and the file's bytes fix.
-    ensures output { (told : Told) → F.tells files.old ≡ Some told →
-        Ends (ending_of sha_hash (map string_bytes words.now) told) result
-        (K.written out.old) (K.written out.new) }
-
-    // The verdict is that of the file's bytes.
-    ensures verdict { (told : Told) → F.tells files.old ≡ Some told →
-        IsVerdictOf sha_hash (file_of (map string_bytes words.now) told) result }
-
-    // Usage comes exactly where the command line refuses the words, whatever the files are; there a fault of the sink
-    // or want of memory may come in its place.
-    ensures usage { EndsByWords (is_refused (map string_bytes words.now)) result
-        (K.written out.old) (K.written out.new) }
-
-    // Each other status has its cause, and two do not come.
-    ensures read_fault { (item : ℕ) → result ≡ Status.FileFault item →
-        (item ≡ 0) × Rose (F.faults files.old) (F.faults files.new) }
-    ensures limit { (which : _) (number : ℕ) → result ≡ Status.Limit which number →
-        (which ≡ FileBytes) × (number ≡ most) }
-    ensures early_text { Says result (K.written out.old) (K.written out.new) }
-    ensures no_bad_line { (line kind : ℕ) → result ≢ Status.SceneBad line kind }
-    ensures no_cache { (item number arg : ℕ) → result ≢ Status.TrustBad item number arg }
-
-    // One file is read, and for other words none; where memory runs out, it may be unread.
-    ensures reads { (told : Told) → F.tells files.old ≡ Some told → result ≢ Status.NoMemory →
-        F.tells files.new ≡ Some (told_after (map string_bytes words.now) told) }
-    ensures reads_short { (told : Told) → F.tells files.old ≡ Some told → result ≡ Status.NoMemory →
-        TellsEither told (told_after (map string_bytes words.now) told) (F.tells files.new) }
-    ensures quiet { path_of (map string_bytes words.now) ≡ None → files.new ≡ files.old }
-
-    // A fault of the sink ends the run with its status and no other.
-    ensures sound { result ≢ Status.SinkFault → K.faults out.new ≡ K.faults out.old }
-    ensures sink_fault { result ≡ Status.SinkFault → Rose (K.faults out.old) (K.faults out.new) }
-
-    // Want of memory hides no fault of the files, and writes nothing.
-    ensures no_memory { result ≡ Status.NoMemory → (K.written out.new ≡ K.written out.old) ×
-        (F.faults files.new ≡ F.faults files.old) }
+    ensures run { IsRun (map string_bytes words.now) files.old files.new
+        (outside (F.tells files.old) (F.faults files.old) (K.written out.old) (K.faults out.old))
+        (outside (F.tells files.new) (F.faults files.new) (K.written out.new) (K.faults out.new))
+        result }
 {
-    let Ok(ending) = after_words(alloc, words, files) else {
+    run(alloc, words, files, out, &InTurn)
+}
+
+/// Runs `csverify` as `csverify_main` does, with the same status and output. The hash pages of a large file are looked
+/// at by threads of this runtime, as `verify_on` of `cs_verify` shares them out; no text and no status depends on it.
+pub fn csverify_on<R: Threads + Sync, F: Files, K: Sink>(
+    rt: &R,
+    alloc: Global,
+    words: &[String],
+    files: &mut F,
+    out: &mut K,
+) -> Status
+    ensures run { IsRun (map string_bytes words.now) files.old files.new
+        (outside (F.tells files.old) (F.faults files.old) (K.written out.old) (K.faults out.old))
+        (outside (F.tells files.new) (F.faults files.new) (K.written out.new) (K.faults out.new))
+        result }
+{
+    run(alloc, words, files, out, &OnThreads::new(rt))
+}
+
+/// Runs `csverify` with these words, where `reporter` makes the report of the file.
+fn run<F: Files, K: Sink, V: Reporter>(
+    alloc: Global,
+    words: &[String],
+    files: &mut F,
+    out: &mut K,
+    reporter: &V,
+) -> Status
+    requires ready { V.ready reporter.now }
+    ensures run { IsRun (map string_bytes words.now) files.old files.new
+        (outside (F.tells files.old) (F.faults files.old) (K.written out.old) (K.faults out.old))
+        (outside (F.tells files.new) (F.faults files.new) (K.written out.new) (K.faults out.new))
+        result }
+{
+    let Ok(ending) = after_words(alloc, words, files, reporter) else {
         return Status::NoMemory;
     };
     match write_whole(out, ending.text()) {
