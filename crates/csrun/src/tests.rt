@@ -4,7 +4,7 @@ use crate::rows::{CACHES, DIRECTORY, EARLY, LARGE_PAGES, SCENES, SMALL_PAGES};
 use cs_samples::{put, put_be32, thin_arm64};
 use pg_bytes::{Status, Which};
 use pg_io::{MemFiles, MemSink};
-use scene_run::csrun_main;
+use scene_run::{csrun_main, csrun_solo};
 use std::alloc::Global;
 use std::test::Fail;
 
@@ -104,12 +104,8 @@ fn contents(alloc: Global) -> Result<Vec<Vec<u8>>, Fail> {
     Ok(contents)
 }
 
-/// Runs these words over the sample files, and the scene under the name `s`.
-fn run_words(alloc: Global, words: &[&str], scene: &str, outside: Outside) -> Result<Ended, Fail> {
-    let mut given = Vec::new(alloc);
-    for word in words {
-        given.push(String::from_str(alloc, word)?)?;
-    }
+/// The sample files, with the scene under the name `s`.
+fn files(alloc: Global, scene: &str, outside: Outside) -> Result<MemFiles, Fail> {
     let mut names = names(alloc)?;
     let mut contents = contents(alloc)?;
     names.push(String::from_str(alloc, "s")?)?;
@@ -117,10 +113,36 @@ fn run_words(alloc: Global, words: &[&str], scene: &str, outside: Outside) -> Re
     if names.len() != contents.len() {
         return Err(Fail::new("a sample file has no name, or a name no file"));
     }
-    let mut files = MemFiles::new(names, contents, Vec::from_slice(alloc, outside.reads)?);
+    Ok(MemFiles::new(names, contents, Vec::from_slice(alloc, outside.reads)?))
+}
+
+/// Where the output goes.
+fn sink(alloc: Global, outside: Outside) -> Result<MemSink, Fail> {
     let writes = Vec::from_slice(alloc, outside.writes)?;
-    let mut out = MemSink::open(alloc, 1_048_576, outside.most.max(1), writes)?;
+    Ok(MemSink::open(alloc, 1_048_576, outside.most.max(1), writes)?)
+}
+
+/// Runs these words over the sample files and the scene.
+fn run_words(alloc: Global, words: &[&str], scene: &str, outside: Outside) -> Result<Ended, Fail> {
+    let mut given = Vec::new(alloc);
+    for word in words {
+        given.push(String::from_str(alloc, word)?)?;
+    }
+    let mut files = files(alloc, scene, outside)?;
+    let mut out = sink(alloc, outside)?;
     let status = csrun_main(alloc, &given, &mut files, &mut out);
+    let text = Vec::from_slice(alloc, out.bytes())?;
+    Ok(Ended { status, text })
+}
+
+/// Runs `solo` and the scene.
+fn run_solo(alloc: Global, scene: &str, outside: Outside) -> Result<Ended, Fail> {
+    let solo = String::from_str(alloc, "solo")?;
+    let path = String::from_str(alloc, "s")?;
+    let given = vec![in alloc; solo, path]?;
+    let mut files = files(alloc, scene, outside)?;
+    let mut out = sink(alloc, outside)?;
+    let status = csrun_solo(alloc, &given, &mut files, &mut out);
     let text = Vec::from_slice(alloc, out.bytes())?;
     Ok(Ended { status, text })
 }
@@ -137,7 +159,7 @@ fn worked_scenes(rt: HostRuntime) -> Result<(), Fail> {
         let ended = run(alloc, scene)?;
         assert_eq!(rt; ended.status, Status::Done, "{what}");
         assert_eq!(rt; ended.text.as_slice(), journal.as_bytes(), "{what}");
-        let alone = run_words(alloc, &["solo", "s"], scene, SOUND)?;
+        let alone = run_solo(alloc, scene, SOUND)?;
         assert_eq!(rt; alone.status, Status::Done, "{what}");
         assert_eq!(rt; alone.text.as_slice(), journal.as_bytes(), "{what}");
     }
@@ -264,7 +286,7 @@ fn sink_of_one_byte_a_write(rt: HostRuntime) -> Result<(), Fail> {
     let alloc = rt.alloc();
     let (_, scene, journal) = SCENES[0];
     let outside = Outside { most: 1, ..SOUND };
-    let whole = run_words(alloc, &["solo", "s"], scene, outside)?;
+    let whole = run_solo(alloc, scene, outside)?;
     assert_eq!(rt; whole.status, Status::Done);
     assert_eq!(rt; whole.text.as_slice(), journal.as_bytes());
     let outside = Outside {
@@ -272,7 +294,7 @@ fn sink_of_one_byte_a_write(rt: HostRuntime) -> Result<(), Fail> {
         writes: &[10],
         ..SOUND
     };
-    let part = run_words(alloc, &["solo", "s"], scene, outside)?;
+    let part = run_solo(alloc, scene, outside)?;
     assert_eq!(rt; part.status, Status::SinkFault);
     assert_eq!(rt; part.text.as_slice(), b"0 0.0 t l".as_slice());
     Ok(())
@@ -298,5 +320,38 @@ fn pager_calls_that_fail_in_turn(rt: HostRuntime) -> Result<(), Fail> {
         assert_eq!(rt; ended.status, Status::Done);
         assert!(rt; text.contains(line), "{call}");
     }
+    Ok(())
+}
+
+/// Runs a scene over one file of so many bytes.
+fn run_large(alloc: Global, count: usize) -> Result<Ended, Fail> {
+    let names = vec![in alloc;
+        String::from_str(alloc, "large")?,
+        String::from_str(alloc, "s")?,
+    ]?;
+    let scene = Vec::from_slice(alloc, b"scene 1\nraw large 0 0\n")?;
+    let contents = vec![in alloc; vec![in alloc; 0; count]?, scene]?;
+    let given = vec![in alloc; String::from_str(alloc, "s")?]?;
+    let mut files = MemFiles::new(names, contents, Vec::new(alloc));
+    let mut out = sink(alloc, SOUND)?;
+    let status = csrun_main(alloc, &given, &mut files, &mut out);
+    let text = Vec::from_slice(alloc, out.bytes())?;
+    Ok(Ended { status, text })
+}
+
+#[test]
+fn files_of_the_most_bytes(rt: HostRuntime) -> Result<(), Fail> {
+    let whole = run_large(rt.alloc(), 67_108_864)?;
+    assert_eq!(rt; whole.status, Status::Done);
+    let longer = run_large(rt.alloc(), 67_108_865)?;
+    let limit = Status::Limit {
+        which: Which::FileBytes,
+        number: 67_108_864,
+    };
+    assert_eq!(rt; longer.status, limit);
+    assert_eq!(rt;
+        longer.text.as_slice(),
+        b"csrun: limit filebytes 67108864\n".as_slice()
+    );
     Ok(())
 }

@@ -18,7 +18,7 @@ use Rattle.scene_open.specs.declared.open_scene.OpenScene.{OpenScene}
 use Rattle.scene_open.specs.Ends.{text_end, scene_end, IsSceneOf, ReadsScene, OpensTo, Opens}
 use Rattle.scene_open.specs.Items.{Item, heads_of, path_of, told_behind, items_told, items_end}
 use Rattle.scene_open.specs.Opening.{opening_of, opening_with}
-use Rattle.scene_run.specs.Ending.{heads_in, scripts_from, scripts_in, lines_found, Run, unless_ends, run_items, run_found, path_of as words_path, run_by, PrintsLegal, RunsLegal, GoesTo, Answers}
+use Rattle.scene_run.specs.Ending.{heads_in, scripts_from, scripts_in, lines_found, Run, unless_ends, run_items, run_found, IsOfSome, PrintsLegal, RunsLegal, GoesTo, Answers}
 use Rattle.std.specs.Io.KnownBytes.{append_known}
 use Rattle.scene_run.specs.Runs.{RunsSolo}
 use Rattle.pg_report.specs.Journal.{journal}
@@ -160,14 +160,27 @@ goes-to hash goes o scripts history text is runs printed = record {
   prints = prints-legal hash o scripts history text runs printed;
 }
 
+-- a scene and items that were opened are those of some bytes
+pub of-some : (found : Option (List ℕ)) (scene : Scene) (items : List Item) (o : OpenScene) → IsSceneOf found scene → heads_of items ≡ scene.head → OpensTo items o
+    → IsOfSome (record { opening = opening_with scene.head o.files.items o.layouts.items o.trust; scripts = scene.scripts })
+of-some found scene items o is heads opens = record {
+  found = found;
+  items = items;
+  passes = ap scene_end is.read ∙ is.passes;
+  lines = heads ∙ sym (heads-found found scene is);
+  goes =
+      ap (λ e. unless_ends e (Ok (record { opening = opening_of items; scripts = scripts_in (lines_found found) }))) opens.passes
+      ∙ (λ i. Ok (record {
+        opening = opening_with (heads i) (sym opens.files i) (sym opens.layouts i) (sym opens.trust i);
+        scripts = scripts-found i;
+      }));
+}
+  where
+    scripts-found : scripts_in (lines_found found) ≡ scene.scripts
+    scripts-found = ap (λ f. scripts_in (lines_found f)) is.read ∙ ap (λ ls. scripts_in ls) (lines-said is.text scene is.says) ∙ scene-scripts scene
+
 -- ---- the end of a run
 
-pub legal-run : (hash : Hash) (words : List (List ℕ)) (told : Told) (path : Option (List ℕ)) (before now : Option (List ℕ)) (text : List ℕ)
-    → path ≡ words_path words → GoesTo hash (run_by told path) text → now ≡ append_known before text → RunsLegal hash words told before now
-legal-run hash words told path before now text same goes wrote = record {
-  run = goes.run;
-  goes = ap (λ p. run_by told p) (sym same) ∙ goes.is;
-  text = text;
-  wrote = wrote;
-  prints = goes.prints;
-}
+pub legal-run : (hash : Hash) (goes : Result Run Status) (before now : Option (List ℕ)) (text : List ℕ)
+    → GoesTo hash goes text → now ≡ append_known before text → RunsLegal hash goes before now
+legal-run hash goes before now text to wrote = record { run = to.run; is = to.is; text = text; wrote = wrote; prints = to.prints }

@@ -1,6 +1,7 @@
 -- What was played script by script is the one legal history of the scripts one after another, and it is sound.
 use Rattle.std.proofs.Common.{◌≡◌, ℕ, ◌<◌, ◌≤◌, List, [], ◌∷◌, ◌++◌, length, map, suc, refl, sym, ap, subst, ◌∙◌, arith}
 use Rattle.std.specs.Prelude.{slice_index_or}
+use Rattle.std.proofs.lemmas.List.{length-map}
 use Rattle.pg_digest.specs.Kinds.{Hash}
 use Rattle.cs_policy.specs.declared.call.Call.{Call}
 use Rattle.pg_history.specs.Machine.{Line}
@@ -18,10 +19,10 @@ use Rattle.pg_sealing.proofs.SealingFacts.{linked_keeps, linked_seals}
 use Rattle.pg_calls.specs.Parts.{PartsNow}
 use Rattle.pg_calls.specs.Scripts.{HasRoomForAll}
 use Rattle.scene_run.specs.Needs.{row_of, played, needs_of}
-use Rattle.scene_run.specs.Turns.{InTurn, Turned}
+use Rattle.scene_run.specs.Turns.{InTurn, PlaysAll}
 use Rattle.scene_run.specs.Runs.{RunsSolo}
 use Rattle.scene_run.proofs.NeedsFacts.{room-for-script}
-use Rattle.scene_run.proofs.TurnFacts.{in-turn-scripted, in-turn-ordered, turned-all}
+use Rattle.scene_run.proofs.TurnFacts.{in-turn-scripted, in-turn-ordered, Turned}
 
 -- ---- a script that is played
 
@@ -44,19 +45,15 @@ pub served : (hash : Hash) (start now : PartsNow) (scripts : List (List Call)) (
 served hash start now scripts worker needs lt turned =
     let many : length now.needs ≡ length scripts =
     ap (λ (p : PartsNow). length p.needs) turned.made ∙ ap length (needs ∙ needed-rows (length start.numbers.files) start.numbers.processes scripts worker lt)
-    ∙ same-length (row_of (length start.numbers.files) start.numbers.processes) scripts in
+    ∙ length-map scripts (row_of (length start.numbers.files) start.numbers.processes) in
     omega (arith, lt, many)
-  where
-    same-length : {A B : Type 0} (f : A → B) (xs : List A) → length (map f xs) ≡ length xs
-    same-length f [] = refl
-    same-length f (x ∷ xs) = ap suc (same-length f xs)
 
 -- ---- the history
 
 pub sound-history : (hash : Hash) (o : Opening) (scripts : List (List Call)) (start now : PartsNow) (history : List Line)
-    → IsOpening o → calls_in scripts ≤ 4096 → start.numbers ≡ numbers_of o → start.made ≡ [] → Turned hash scripts (length scripts) start now
+    → IsOpening o → calls_in scripts ≤ 4096 → start.numbers ≡ numbers_of o → start.made ≡ [] → PlaysAll hash scripts start now
     → now.made ≡ history → IsStamped history → Agrees (numbers_of o) history → AnsweredByParts hash o.machine history → RunsSolo hash o scripts history
-sound-history hash o scripts start now history opens few numbers none turned made stamps agrees answered = record {
+sound-history hash o scripts start now history opens few numbers none plays made stamps agrees answered = record {
   is_solo = ordered_is_solo hash o scripts history legal (in-turn-ordered hash (numbers_of o) 0 scripts history in_turn);
   sound = record {
     legal = legal;
@@ -66,12 +63,12 @@ sound-history hash o scripts start now history opens few numbers none turned mad
   };
 }
   where
-    own-is : turned.own ≡ history
-    own-is = ap (λ (m : List Line). m ++ turned.own) (sym none) ∙ sym (ap (λ (p : PartsNow). p.made) turned.made) ∙ made
+    own-is : plays.own ≡ history
+    own-is = ap (λ (m : List Line). m ++ plays.own) (sym none) ∙ sym (ap (λ (p : PartsNow). p.made) plays.made) ∙ made
 
     in_turn : InTurn hash (numbers_of o) 0 scripts history
     in_turn = subst (λ (es : List Line). InTurn hash (numbers_of o) 0 scripts es) own-is
-        (subst (λ (n : Numbers). InTurn hash n 0 scripts turned.own) numbers (turned-all hash scripts start now turned))
+        (subst (λ (n : Numbers). InTurn hash n 0 scripts plays.own) numbers plays.in_turn)
 
     replies : Answered hash o.machine history
     replies = parts_answer hash o.machine history answered

@@ -15,7 +15,7 @@ use Rattle.pg_history.specs.Solo.{InOrder}
 use Rattle.pg_history.proofs.ListFacts.{all-append, all-map}
 use Rattle.pg_calls.specs.Parts.{PartsNow}
 use Rattle.pg_calls.specs.Scripts.{IsBy, Plays}
-use Rattle.scene_run.specs.Turns.{Turn, InTurn, Turned}
+use Rattle.scene_run.specs.Turns.{Turn, InTurn, PlaysAll}
 
 -- ---- whose entries they are
 
@@ -101,6 +101,13 @@ module _ (hash : Hash) (numbers : Numbers) where
 
 -- ---- scripts as far as they were played
 
+-- What the scripts before a place have added: whatever follows them as that of the rest, all of it is that of the scripts.
+pub record Turned (hash : Hash) (scripts : List (List Call)) (done : ℕ) (start now : PartsNow) : Type 0 where
+  pub own : List Line
+  pub made : now ≡ record start { made = start.made ++ own }
+  pub joins : (rest : List Line) → InTurn hash start.numbers done (drop done scripts) rest → InTurn hash start.numbers 0 scripts (own ++ rest)
+  pub earlier : AllByRecursion (λ e. e.entry.who.worker < done) own
+
 module _ (hash : Hash) (scripts : List (List Call)) (start : PartsNow) where
   pub turned-none : Turned hash scripts 0 start start
   turned-none = record {
@@ -130,9 +137,13 @@ module _ (hash : Hash) (scripts : List (List Call)) (start : PartsNow) where
       by_worker : All (IsBy start.numbers done) plays.own
       by_worker = subst (λ (p : PartsNow). All (IsBy p.numbers done) plays.own) turned.made plays.by_worker
 
-  pub turned-all : (now : PartsNow) (turned : Turned hash scripts (length scripts) start now) → InTurn hash start.numbers 0 scripts turned.own
-  turned-all now turned = subst (λ es. InTurn hash start.numbers 0 scripts es) (append-nil turned.own)
-      (turned.joins [] (subst (λ ss. InTurn hash start.numbers (length scripts) ss []) (sym (drop-length scripts)) refl))
+  pub turned-all : (now : PartsNow) → Turned hash scripts (length scripts) start now → PlaysAll hash scripts start now
+  turned-all now turned = record {
+    own = turned.own;
+    made = turned.made;
+    in_turn = subst (λ es. InTurn hash start.numbers 0 scripts es) (append-nil turned.own)
+        (turned.joins [] (subst (λ ss. InTurn hash start.numbers (length scripts) ss []) (sym (drop-length scripts)) refl));
+  }
 
 -- ---- the script at a place
 

@@ -1,5 +1,5 @@
 -- How a run ends: its status, and the text that it writes.
-use Rattle.std.specs.Prelude.{ℕ, ◌≡◌, ◌≢◌, ◌+◌, List, [], ◌∷◌, codes, Option, Some, None, unwrap_or, Result, Ok, Err, if◌then◌else◌}
+use Rattle.std.specs.Prelude.{ℕ, ◌≡◌, ◌≢◌, ◌≤◌, ◌+◌, List, [], ◌∷◌, codes, Option, Some, None, unwrap_or, Result, Ok, Err, if◌then◌else◌}
 use Rattle.std.specs.Result.{result_err, result_ok}
 use Rattle.std.specs.Global.{Vec}
 use Rattle.std.specs.Str.{bytes_eq}
@@ -21,7 +21,7 @@ use Rattle.scene_text.specs.declared.line.Line as scene_line
 use Rattle.scene_text.specs.Texts.{said}
 use Rattle.pg_report.specs.Journal.{journal}
 use Rattle.scene_open.specs.Ends.{scene_end}
-use Rattle.scene_open.specs.Items.{Item, items_told, items_end, files_named}
+use Rattle.scene_open.specs.Items.{Item, heads_of, items_told, items_end, files_named}
 use Rattle.scene_open.specs.Opening.{opening_of}
 use Rattle.scene_run.specs.Texts.{early_line}
 use Rattle.scene_run.specs.Runs.{IsSound}
@@ -88,6 +88,10 @@ path_of (path ∷ []) = Some path
 path_of (word ∷ path ∷ []) = if bytes_eq word (codes "solo") then Some path else None
 path_of _ = None
 
+-- the words are `solo` and a path
+abbrev pub AreSolo : List (List ℕ) → Type 0
+AreSolo words = (path : List ℕ) × (words ≡ codes "solo" ∷ path ∷ [])
+
 -- how a run of these words goes
 abbrev pub run_by : Told → Option (List ℕ) → Result Run Status
 run_by told None = Err status.Usage
@@ -135,16 +139,27 @@ pub record PrintsLegal (hash : Hash) (run : Run) (text : List ℕ) : Type 0 wher
   pub only : (other : List Line) → Legal hash run.opening run.scripts other → InOrder other → other ≡ history
 
 -- no step ended the run, and what it has written is such a text
-pub record RunsLegal (hash : Hash) (words : List (List ℕ)) (told : Told) (before now : Option (List ℕ)) : Type 0 where
+pub record RunsLegal (hash : Hash) (goes : Result Run Status) (before now : Option (List ℕ)) : Type 0 where
   pub run : Run
-  pub goes : run_of words told ≡ Ok run
+  pub is : goes ≡ Ok run
   pub text : List ℕ
   pub wrote : now ≡ append_known before text
   pub prints : PrintsLegal hash run text
 
--- the same of some run, whatever the files tell
+-- The run is that of a scene and its items for some bytes of their files, of which none ends it early.
+pub record IsOfSome (run : Run) : Type 0 where
+  -- what was found of the scene's file
+  pub found : Option (List ℕ)
+  -- the header lines, each with what was found of the file that it names
+  pub items : List Item
+  pub passes : scene_end found ≡ None
+  pub lines : heads_of items ≡ heads_in (lines_found found)
+  pub goes : run_items items (scripts_in (lines_found found)) ≡ Ok run
+
+-- the same of a run over some bytes, whatever the files tell
 pub record PrintsSome (hash : Hash) (text : List ℕ) : Type 0 where
   pub run : Run
+  pub of_some : IsOfSome run
   pub prints : PrintsLegal hash run text
 
 -- ---- the text of a run
@@ -198,6 +213,13 @@ Says hash status.Done before now = (text : List ℕ) × (now ≡ append_known be
 Says hash status.SinkFault before now = Unit {0}
 Says hash status.NoMemory before now = now ≡ before
 Says hash other before now = now ≡ append_known before (early_line other)
+
+-- The count of the files' faults rises where the run ends with a file that could not be read, and else stays; a fault of
+-- the sink may come in the place of that end.
+abbrev pub CountsFaults : Status → ℕ → ℕ → Type 0
+CountsFaults (status.FileFault item) before now = Rose before now
+CountsFaults status.SinkFault before now = before ≤ now
+CountsFaults other before now = now ≡ before
 
 -- ---- reads
 

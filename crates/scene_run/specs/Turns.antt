@@ -22,9 +22,8 @@ InTurn hash numbers worker (script ∷ scripts) es =
     (own : List Line) × (others : List Line) × Turn hash numbers worker script es own others
     × InTurn hash numbers (worker + 1) scripts others
 
--- What the scripts before a place have added: whatever follows them as that of the rest, all of it is that of the scripts.
-pub record Turned (hash : Hash) (scripts : List (List Call)) (done : ℕ) (start now : PartsNow) : Type 0 where
+-- The scripts were played, one after another: their entries were made, and nothing else.
+pub record PlaysAll (hash : Hash) (scripts : List (List Call)) (old new : PartsNow) : Type 0 where
   pub own : List Line
-  pub made : now ≡ record start { made = start.made ++ own }
-  pub joins : (rest : List Line) → InTurn hash start.numbers done (drop done scripts) rest → InTurn hash start.numbers 0 scripts (own ++ rest)
-  pub earlier : AllByRecursion (λ e. e.entry.who.worker < done) own
+  pub made : new ≡ record old { made = old.made ++ own }
+  pub in_turn : InTurn hash old.numbers 0 scripts own

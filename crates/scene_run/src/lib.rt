@@ -11,4 +11,4 @@ mod top;
 pub use needs::needs_of;
 pub use solo::run_solo;
 pub use std::alloc::AllocError as NoMemory;
-pub use top::csrun_main;
+pub use top::{csrun_main, csrun_solo};

@@ -12,7 +12,7 @@ ghost use Rattle.scene_open.specs.Limits.{IsWithin};
 ghost use Rattle.scene_open.specs.Opening.{opening_with};
 ghost use Rattle.scene_open.specs.Fits.{IsOpeningFor};
 ghost use Rattle.scene_run.specs.Needs.{needs_of};
-ghost use Rattle.scene_run.specs.Turns.{Turned};
+ghost use Rattle.scene_run.specs.Turns.{PlaysAll};
 ghost use Rattle.scene_run.specs.Runs.{RunsSolo};
 
 use crate::NoMemory;
@@ -81,8 +81,7 @@ fn play_all(
     requires workers { length scripts.now ≤ 8 }
     requires few { All (λ script. length script ≤ 4096) scripts.now }
     requires declared { All (All (IsDeclared (numbers_in parts.old.start))) scripts.now }
-    ensures { OnOk result (Turned sha_hash scripts.now (length scripts.now)
-        (shown parts.old) (shown parts.new)) }
+    ensures { OnOk result (PlaysAll sha_hash scripts.now (shown parts.old) (shown parts.new)) }
 {
     let mut digester = ShaDigester::new();
     for number in 0..scripts.len() {

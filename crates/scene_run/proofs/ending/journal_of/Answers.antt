@@ -8,7 +8,7 @@ use Rattle.pg_report.specs.Journal.{journal}
 use Rattle.scene_open.specs.Opening.{opening_with}
 use Rattle.scene_run.specs.Ending.{run_path, AnswerIsCaused}
 use Rattle.scene_run.proofs.LinesFacts.{few-scripts}
-use Rattle.scene_run.proofs.EndingFacts.{items-ends, goes-from, goes-to, prints-legal}
+use Rattle.scene_run.proofs.EndingFacts.{items-ends, goes-from, goes-to, prints-legal, of-some}
 use Rattle.scene_run.proofs.CauseFacts.{scene-caused, items-caused, all-reads}
 use Rattle.scene_run.proofs.ending.journal_of.Goals as goal
 
@@ -71,6 +71,8 @@ returns-clause-cause g c =
       c.in-Ok-open_items.ensures.cause ∙ c.in-Ok.ensures.cause,
       record {
         run = record { opening = o; scripts = c.in-Ok.scene.scripts };
+        of_some = of-some c.in-Ok.ensures.some.0 c.in-Ok.scene c.in-Ok-open_items.ensures.some.items c.in-Ok-open_items.opened
+            c.in-Ok.ensures.some.1 c.in-Ok-open_items.ensures.some.lines c.in-Ok-open_items.ensures.some.opens;
         prints = prints-legal sha_hash o c.in-Ok.scene.scripts c.in-Ok-run_solo.history.items c.in-Ok-journal.text.items c.in-Ok-run_solo.ensures printed;
       },
     )
