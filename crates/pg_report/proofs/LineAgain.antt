@@ -73,7 +73,7 @@ line_again due l f =
       says = rw (long_again l.stamp lt, who_again l.entry.who f.worker f.call, place_again l.entry.place f.place, arrow_again (event_words l.entry.event) (reply_words l.read l.entry.reply) e.plain, e.says, r.says, eq-eqb l.stamp due f.stamp) refl;
     }
 
-all_again : (due : ℕ) (lines : List Line) → LinesFit due lines → AllSayThemselves due lines
+pub all_again : (due : ℕ) (lines : List Line) → LinesFit due lines → AllSayThemselves due lines
 all_again due [] f = tt
 all_again due (l ∷ lines) f = (line_again due l f.0, all_again (due + 1) lines f.1)
 
