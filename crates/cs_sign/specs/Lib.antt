@@ -1,0 +1,17 @@
+pub mod Blobs
+pub mod Requests
+pub mod Refusals
+pub mod Fails
+pub mod Plans
+pub mod Rules
+pub mod Body
+pub mod Directory
+pub mod Signed
+pub mod Caches
+pub mod Words
+pub mod WordsView
+pub mod Early
+pub mod Reading
+pub mod Ending
+pub mod EndingView
+pub mod Verified
