@@ -4,14 +4,16 @@
 Run at the top of the repository after the gate, which leaves the program built: `bench/scenes.py [ROUNDS]`, where ROUNDS is
 how often each scene is run (9); times are from the best round, and all programs are run once in each. A row for each scene:
 
-- checked: faults for execution on the 256 pages of one file, again and again; a page is hashed at its first fault alone.
+- first: a fault for execution on each page of a file of 256 pages, each of which is hashed.
+- checked: the same again and again, 4,096 calls in all; a page is hashed at its first fault alone.
 - rehashed: a byte is written over an equal one, and its page is faulted for execution, which hashes it anew.
 - regions: 2,040 regions of one file, by eight processes, and a fault on each.
 - files: the same number of faults as in the first row, over 16 files of 16 pages.
 - scene: a scene of nearly 1 MiB, whose calls write 120 bytes each.
 - nothing: `scene 1` alone, which shows what starting the program costs.
 
-`events/s` counts the whole run with its text. `hashed` is how many bytes are due to be hashed: a page for each execution that
+`events/s` counts the whole run with its text; the last line is the rate of the faults that `checked` has more than `first`, with
+their lines of scene and journal, none of which hashes. `hashed` is how many bytes are due to be hashed: a page for each execution that
 finds no kept check, and a code directory twice for each attach. `sha256sum` and `wc -l` are whole processes over that many
 bytes, and over the journal. `memory` is the most that the program had, where the program `time` is there, beside the bytes of
 files, frames and signatures (`held`).
@@ -66,12 +68,12 @@ def held(files: dict[str, bytes], length: int) -> int:
     return sum(len(data) + (-(-len(data) // PAGE) + 1) * PAGE + 2 * length for data in files.values())
 
 
-def faults(count: int, pages: int) -> Made:
+def faults(count: int, pages: int, most: int = CALLS) -> Made:
     lines, files, length = declared(count, pages, 1)
     lines += ["script", "spawn p0"]
     for number in range(count):
         lines += [f"map p0 {BASE + number * pages * PAGE:#x} f{number} 0 {pages} r-x private", f"attach f{number} 0"]
-    left = CALLS - 1 - 2 * count
+    left = min(most, CALLS - 1 - 2 * count)
     lines += [f"fault p0 {BASE + PAGE * (call * 5 % (pages * count)):#x} x" for call in range(left)]
     return Made("\n".join(lines) + "\n", files, count * (pages * PAGE + 2 * length), held(files, length))
 
@@ -104,6 +106,7 @@ def large_scene() -> Made:
 
 
 SCENES = {
+    "first": lambda: faults(1, 253, 253),
     "checked": lambda: faults(1, 253),
     "rehashed": rehashed,
     "regions": regions,
@@ -135,6 +138,7 @@ def main() -> int:
         return 0
     rounds = int(sys.argv[1]) if len(sys.argv) > 1 else 9
     print(f"{'scene':>9} {'events':>7} {'ms':>7} {'events/s':>9} {'hashed':>9} {'sha256sum':>9} {'ratio':>6} {'wc -l':>6} {'memory':>10} {'held':>10}")
+    found: dict[str, tuple[int, float]] = {}
     for name, make in SCENES.items():
         made = make()
         with tempfile.TemporaryDirectory() as place:
@@ -152,10 +156,13 @@ def main() -> int:
                 count = min(count, timed(["wc", "-l", "journal"], folder)[0])
             memory = most_memory([program, "solo", "s"], folder)
         events = int(text.split(b"events ")[1].split()[0])
+        found[name] = events, best
         print(
             f"{name:>9} {events:>7} {best * 1e3:>7.2f} {events / best:>9.0f} {made.hashed:>9} {peer * 1e3:>9.2f} {best / peer:>6.2f}"
             f" {count * 1e3:>6.2f} {memory:>10} {made.bytes:>10}"
         )
+    more, longer = (checked - first for checked, first in zip(found["checked"], found["first"]))
+    print(f"faults on checked pages: {more} events more in {longer * 1e3:.2f} ms, {more / longer:.0f} events/s")
     return 0
 
 
