@@ -56,8 +56,7 @@ fn signature<D: Digester>(
 /// A file signed anew, ad hoc, in the place of its signature: the file is a thin Mach-O image that has one, and nothing
 /// lies behind it. The new signature has a code directory of SHA-256 digests with this identifier and hash pages of this
 /// size, empty requirements, the entitlements where some are given, and an empty CMS signature. The refusal is that of
-/// the first rule that is broken; `SignRefusal` has them in their order. The other error is want of memory. The
-/// digester is called once for each hash page and for each blob that has a special slot.
+/// the first rule that is broken; `SignRefusal` has them in their order. The other error is want of memory.
 pub fn sign<D: Digester>(
     alloc: Global,
     bytes: &[u8],

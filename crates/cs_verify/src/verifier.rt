@@ -40,10 +40,11 @@ pub fn verify<D: Digester>(
     report_by(alloc, bytes, &InTurn, d)
 }
 
-/// The report of a file, which is that of `verify` by the standard digests. The hash pages of a slice are looked at in
-/// shares of at least 128, at most one for each processor and each on a thread of its own where one can be had; the
-/// pages of a slice with fewer than 256 are looked at by the thread that calls. Nothing waits for another thread but to
-/// join it.
+// The hash pages of a slice are looked at in shares of at least 128, at most one for each processor; those of a slice with
+// fewer than 256 by the thread that calls.
+
+/// The report of a file, which is that of `verify` by the standard digests. Pages may be looked at on other threads; the
+/// report is the same.
 pub fn verify_on<R: Threads + Sync>(
     rt: &R,
     alloc: Global,

@@ -3,8 +3,8 @@
 ghost use Rattle.pg_printed.specs.Printed.{JournalsTellHistories};
 
 /// Two legal histories of one opening, by any workers and of any scripts, are equal where their journals are equal, and so
-/// are the numbers of calls that the journals tell. Each number of the histories is one of its type, as in every history
-/// that a program holds.
+/// are the numbers of calls that the journals tell. Of each history it asks that its numbers are of their types and that
+/// each reply is of a kind that its event can have (`IsHeld`).
 ///
 /// A journal prints neither the bytes of a signature that was read nor the number of pages of a file that is mapped: these
 /// are what the opening has.

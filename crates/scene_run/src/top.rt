@@ -95,7 +95,7 @@ pub fn csrun_main<F: Files, K: Sink>(
     ensures faults { CountsFaults result (F.faults files.old) (F.faults files.new) }
     ensures no_verdict { result ≢ Status.NotSealed }
 
-    // The scene's file is read once, and each file that a header line names at most once, also where memory runs out.
+    // The scene's file, and each file that a header line names, is read at most once, also where memory runs out.
     ensures reads { (told : Told) → F.tells files.old ≡ Some told →
         ReadsWithin told (reads_by (path_of (map string_bytes words.now)) told)
         (F.tells files.new) }
@@ -144,7 +144,7 @@ pub fn csrun_solo<F: Files, K: Sink>(
     // sink, which may come in its place.
     ensures faults { CountsFaults result (F.faults files.old) (F.faults files.new) }
 
-    // The scene's file is read once, and each file that a header line names at most once, also where memory runs out.
+    // The scene's file, and each file that a header line names, is read at most once, also where memory runs out.
     ensures reads { (told : Told) → F.tells files.old ≡ Some told →
         ReadsWithin told (reads_by (path_of (map string_bytes words.now)) told)
         (F.tells files.new) }
