@@ -4,6 +4,7 @@ use crate::files::{Files, ReadFail};
 use std::alloc::Global;
 use std::io::{ErrorKind, Read};
 use std::marker::Model;
+use std::fs::OpenFile;
 use std::{fs, io, rt};
 
 /// The system's files, which tell nothing of their content. A name is a path.
@@ -52,7 +53,9 @@ fn read_first<R: rt::Files>(rt: &R, alloc: Global, name: &str, most: u64) -> io:
     ensures { IfOk result (λ v. vec_len v ≤ most) }
 {
     let file = fs::open(rt, name)?;
-    let mut bytes = Vec::new(alloc);
+    let length = file.metadata()?.len().min(most) as usize;
+    // All memory is taken at once. One byte more lets the read that meets the file's end fit too.
+    let mut bytes = Vec::with_capacity(alloc, length.saturating_add(1))?;
     file.take(most).read_to_end(&mut bytes)?;
     // No more than `most` bytes came; nothing that is stated of a system's file says so.
     bytes.truncate(most as usize);
