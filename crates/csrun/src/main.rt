@@ -1,12 +1,12 @@
 //! `csrun SCENE` runs a scene over the files that it names and prints its journal.
 //!
-//! All that the program does is the top call of `scene_run`, which carries its promise; `main` hands it the real files and
-//! the real output.
+//! All that the program does is the top call of `scene_threads`, which carries its promise; `main` hands it the runtime, the
+//! real files and the real output, and a gate at which no worker waits.
 #![tactic(auto)]
 
 use pg_bytes::{Status, arguments, code};
-use pg_io::{DiskFiles, StdoutSink};
-use scene_run::csrun_main;
+use pg_io::{DiskFiles, OpenGate, StdoutSink};
+use scene_threads::csrun_main;
 use std::alloc::AllocError;
 use std::env;
 use std::io::ErrorKind;
@@ -35,7 +35,14 @@ fn main(rt: HostRuntime) -> ExitCode {
     };
     let mut files = DiskFiles::new(&rt);
     let mut out = StdoutSink::new(&rt);
-    let status = csrun_main(rt.alloc(), arguments(&words), &mut files, &mut out);
+    let status = csrun_main(
+        &rt,
+        rt.alloc(),
+        arguments(&words),
+        &mut files,
+        &mut out,
+        &OpenGate,
+    );
     ExitCode::from(code(&status))
 }
 

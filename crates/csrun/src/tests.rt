@@ -3,10 +3,13 @@
 use crate::rows::{CACHES, DIRECTORY, EARLY, LARGE_PAGES, SCENES, SMALL_PAGES};
 use cs_samples::{put, put_be32, thin_arm64};
 use pg_bytes::{Status, Which};
-use pg_io::{MemFiles, MemSink};
-use scene_run::{csrun_main, csrun_solo};
+use pg_io::{MemFiles, MemSink, OpenGate};
+use scene_run::csrun_solo;
+use scene_threads::csrun_main;
 use std::alloc::Global;
+use std::sync::Wait;
 use std::test::Fail;
+use std::thread::Threads;
 
 /// How a run ended, and what it wrote.
 #[derive(Drop)]
@@ -123,14 +126,20 @@ fn sink(alloc: Global, outside: Outside) -> Result<MemSink, Fail> {
 }
 
 /// Runs these words over the sample files and the scene.
-fn run_words(alloc: Global, words: &[&str], scene: &str, outside: Outside) -> Result<Ended, Fail> {
+fn run_words<R: Threads + Wait + Sync + AllocGlobal>(
+    rt: &R,
+    words: &[&str],
+    scene: &str,
+    outside: Outside,
+) -> Result<Ended, Fail> {
+    let alloc = rt.alloc();
     let mut given = Vec::new(alloc);
     for word in words {
         given.push(String::from_str(alloc, word)?)?;
     }
     let mut files = files(alloc, scene, outside)?;
     let mut out = sink(alloc, outside)?;
-    let status = csrun_main(alloc, &given, &mut files, &mut out);
+    let status = csrun_main(rt, alloc, &given, &mut files, &mut out, &OpenGate);
     let text = Vec::from_slice(alloc, out.bytes())?;
     Ok(Ended { status, text })
 }
@@ -148,15 +157,15 @@ fn run_solo(alloc: Global, scene: &str, outside: Outside) -> Result<Ended, Fail>
 }
 
 /// Runs a scene.
-fn run(alloc: Global, scene: &str) -> Result<Ended, Fail> {
-    run_words(alloc, &["s"], scene, SOUND)
+fn run<R: Threads + Wait + Sync + AllocGlobal>(rt: &R, scene: &str) -> Result<Ended, Fail> {
+    run_words(rt, &["s"], scene, SOUND)
 }
 
 #[test]
 fn worked_scenes(rt: HostRuntime) -> Result<(), Fail> {
     let alloc = rt.alloc();
     for (what, scene, journal) in SCENES {
-        let ended = run(alloc, scene)?;
+        let ended = run(&rt, scene)?;
         assert_eq!(rt; ended.status, Status::Done, "{what}");
         assert_eq!(rt; ended.text.as_slice(), journal.as_bytes(), "{what}");
         let alone = run_solo(alloc, scene, SOUND)?;
@@ -168,9 +177,8 @@ fn worked_scenes(rt: HostRuntime) -> Result<(), Fail> {
 
 #[test]
 fn early_ends(rt: HostRuntime) -> Result<(), Fail> {
-    let alloc = rt.alloc();
     for (what, scene, status, line) in EARLY {
-        let ended = run(alloc, scene)?;
+        let ended = run(&rt, scene)?;
         assert_eq!(rt; ended.status, status, "{what}");
         assert_eq!(rt; ended.text.as_slice(), line.as_bytes(), "{what}");
     }
@@ -179,11 +187,10 @@ fn early_ends(rt: HostRuntime) -> Result<(), Fail> {
 
 #[test]
 fn words_of_other_forms(rt: HostRuntime) -> Result<(), Fail> {
-    let alloc = rt.alloc();
     let usage = b"usage: csrun SCENE | csrun solo SCENE | csrun gen N\n";
     let forms: [&[&str]; 4] = [&[], &["gen", "0"], &["so", "s"], &["solo", "s", "s"]];
     for words in forms {
-        let ended = run_words(alloc, words, "scene 1\n", SOUND)?;
+        let ended = run_words(&rt, words, "scene 1\n", SOUND)?;
         assert_eq!(rt; ended.status, Status::Usage);
         assert_eq!(rt; ended.text.as_slice(), usage.as_slice());
     }
@@ -232,7 +239,7 @@ fn limits(rt: HostRuntime) -> Result<(), Fail> {
         for _ in 0..count {
             scene.push_str(line)?;
         }
-        let ended = run(alloc, &scene)?;
+        let ended = run(&rt, &scene)?;
         let text = format!(in alloc; "csrun: limit {word} {number}\n")?;
         assert_eq!(rt; ended.status, Status::Limit { which, number }, "{word}");
         assert_eq!(rt; ended.text.as_slice(), text.as_bytes(), "{word}");
@@ -257,7 +264,7 @@ fn one_less_than_the_limits(rt: HostRuntime) -> Result<(), Fail> {
         for _ in 0..count {
             scene.push_str(line)?;
         }
-        assert_eq!(rt; run(alloc, &scene)?.status, Status::Done, "{line}");
+        assert_eq!(rt; run(&rt, &scene)?.status, Status::Done, "{line}");
     }
     Ok(())
 }
@@ -271,12 +278,12 @@ fn reads_that_fail(rt: HostRuntime) -> Result<(), Fail> {
             reads: &[read],
             ..SOUND
         };
-        let ended = run_words(alloc, &["s"], scene, outside)?;
+        let ended = run_words(&rt, &["s"], scene, outside)?;
         let text = format!(in alloc; "csrun: cannot read item {item}\n")?;
         assert_eq!(rt; ended.status, Status::FileFault { item });
         assert_eq!(rt; ended.text.as_slice(), text.as_bytes());
     }
-    let gone = run_words(alloc, &["gone"], scene, SOUND)?;
+    let gone = run_words(&rt, &["gone"], scene, SOUND)?;
     assert_eq!(rt; gone.status, Status::FileFault { item: 0 });
     Ok(())
 }
@@ -315,7 +322,7 @@ fn pager_calls_that_fail_in_turn(rt: HostRuntime) -> Result<(), Fail> {
         let scene = format!(in alloc;
             "scene 1\nraw A 12288 186\nfail f0 {call}\nprocess enforce\nadmit dd2875b1ed5de5cda3421fc7fe4869ab72113510\nscript\nspawn p0\nmap p0 0x10000 f0 0 3 r-x private\nattach f0 0\nfault p0 0x10000 x\nfault p0 0x11000 x\nfault p0 0x12000 x\n"
         )?;
-        let ended = run(alloc, &scene)?;
+        let ended = run(&rt, &scene)?;
         let text = str::from_utf8(&ended.text)?;
         assert_eq!(rt; ended.status, Status::Done);
         assert!(rt; text.contains(line), "{call}");
@@ -324,7 +331,8 @@ fn pager_calls_that_fail_in_turn(rt: HostRuntime) -> Result<(), Fail> {
 }
 
 /// Runs a scene over one file of so many bytes.
-fn run_large(alloc: Global, count: usize) -> Result<Ended, Fail> {
+fn run_large<R: Threads + Wait + Sync + AllocGlobal>(rt: &R, count: usize) -> Result<Ended, Fail> {
+    let alloc = rt.alloc();
     let names = vec![in alloc;
         String::from_str(alloc, "large")?,
         String::from_str(alloc, "s")?,
@@ -334,16 +342,16 @@ fn run_large(alloc: Global, count: usize) -> Result<Ended, Fail> {
     let given = vec![in alloc; String::from_str(alloc, "s")?]?;
     let mut files = MemFiles::new(names, contents, Vec::new(alloc));
     let mut out = sink(alloc, SOUND)?;
-    let status = csrun_main(alloc, &given, &mut files, &mut out);
+    let status = csrun_main(rt, alloc, &given, &mut files, &mut out, &OpenGate);
     let text = Vec::from_slice(alloc, out.bytes())?;
     Ok(Ended { status, text })
 }
 
 #[test]
 fn files_of_the_most_bytes(rt: HostRuntime) -> Result<(), Fail> {
-    let whole = run_large(rt.alloc(), 67_108_864)?;
+    let whole = run_large(&rt, 67_108_864)?;
     assert_eq!(rt; whole.status, Status::Done);
-    let longer = run_large(rt.alloc(), 67_108_865)?;
+    let longer = run_large(&rt, 67_108_865)?;
     let limit = Status::Limit {
         which: Which::FileBytes,
         number: 67_108_864,

@@ -1,11 +1,10 @@
 -- What ends a run early, and by what it is caused.
-use Rattle.std.proofs.Common.{◌≡◌, ℕ, suc, ◌+◌, ◌≤◌, Bool, true, false, List, [], ◌∷◌, Option, Some, None, Result, Ok, Err, refl, sym, subst, arith}
+use Rattle.std.proofs.Common.{◌≡◌, ℕ, suc, ◌+◌, ◌≤◌, Bool, true, false, List, [], ◌∷◌, Option, Some, None, Result, Ok, Err, sym, subst, arith}
 use Rattle.std.specs.Prelude.{if◌then◌else◌, cond}
 use Rattle.std.specs.Option.{option_or}
 use Rattle.pg_bytes.specs.Rules.{Rule, first}
 use Rattle.pg_bytes.specs.declared.status.Status.{Status}
 use Rattle.pg_bytes.specs.declared.status.Status.TheVariants as status
-use Rattle.pg_digest.specs.Kinds.{Hash}
 use Rattle.pg_io.specs.Files.{Told, after_read}
 use Rattle.cs_policy.specs.declared.layout.Layout.{Layout}
 use Rattle.cs_trust.specs.declared.refusal.TrustRefusal.{TrustRefusal}
@@ -21,7 +20,7 @@ use Rattle.scene_open.specs.Layouts.{macho_layout, raw_layout, has_long}
 use Rattle.scene_open.specs.Items.{Item, names_file, file_end, static_end, bytes_end, found_end, item_end, items_end, ReadsWithin, files_named}
 use Rattle.scene_open.specs.Ends as ends
 use Rattle.scene_open.specs.Ends.{said_end, text_end, scene_end, IsSceneOf, ReadsScene, ReadsSome, Opens, OpensSome}
-use Rattle.scene_run.specs.Ending.{most_reads, AnswerIsCaused}
+use Rattle.scene_run.specs.Ending.{most_reads, EarlyIsCaused}
 use Rattle.scene_run.proofs.EndingFacts.{heads-found}
 
 -- the status is one with which a run can end before its first event
@@ -100,16 +99,16 @@ items-early number (item ∷ items) = either-early (item_end number item) (items
 -- ---- causes
 
 -- an early end that raised the count of faults where a file could not be read, and else left it
-early-caused : (hash : Hash) (before now : ℕ) (s : Status) → IsEarly s → ends.IsCaused {A = OpenScene} (Err s) before now → AnswerIsCaused hash before now (Err s)
-early-caused hash before now (status.SceneBad line kind) early is = (is, refl)
-early-caused hash before now (status.FileFault item) early is = (is, refl)
-early-caused hash before now (status.Limit which number) early is = (is, refl)
-early-caused hash before now (status.TrustBad item number arg) early is = (is, refl)
-early-caused hash before now status.Done early is = absurd early
-early-caused hash before now status.NotSealed early is = absurd early
-early-caused hash before now status.Usage early is = absurd early
-early-caused hash before now status.SinkFault early is = absurd early
-early-caused hash before now status.NoMemory early is = absurd early
+early-caused : (before now : ℕ) (s : Status) → IsEarly s → ends.IsCaused {A = OpenScene} (Err s) before now → EarlyIsCaused before now s
+early-caused before now (status.SceneBad line kind) early is = is
+early-caused before now (status.FileFault item) early is = is
+early-caused before now (status.Limit which number) early is = is
+early-caused before now (status.TrustBad item number arg) early is = is
+early-caused before now status.Done early is = absurd early
+early-caused before now status.NotSealed early is = absurd early
+early-caused before now status.Usage early is = absurd early
+early-caused before now status.SinkFault early is = absurd early
+early-caused before now status.NoMemory early is = absurd early
 
 as-items : (s : Status) (before now : ℕ) → ends.IsCaused {A = Scene} (Err s) before now → ends.IsCaused {A = OpenScene} (Err s) before now
 as-items (status.SceneBad line kind) before now is = is
@@ -125,27 +124,27 @@ as-items status.NoMemory before now is = is
 is-early : (o : Option Status) (s : Status) → EndsEarly o → o ≡ Some s → IsEarly s
 is-early o s early is = subst EndsEarly is early
 
-pub scene-caused : (hash : Hash) (before now : ℕ) (s : Status) → ReadsSome (Err s) → ends.IsCaused {A = Scene} (Err s) before now → AnswerIsCaused hash before now (Err s)
-scene-caused hash before now status.NoMemory some is = is
-scene-caused hash before now (status.SceneBad line kind) some is = early-caused hash before now (status.SceneBad line kind) (is-early (scene_end some.0) (status.SceneBad line kind) (scene-early some.0) some.1) (as-items (status.SceneBad line kind) before now is)
-scene-caused hash before now (status.FileFault item) some is = early-caused hash before now (status.FileFault item) (is-early (scene_end some.0) (status.FileFault item) (scene-early some.0) some.1) (as-items (status.FileFault item) before now is)
-scene-caused hash before now (status.Limit which number) some is = early-caused hash before now (status.Limit which number) (is-early (scene_end some.0) (status.Limit which number) (scene-early some.0) some.1) (as-items (status.Limit which number) before now is)
-scene-caused hash before now (status.TrustBad item number arg) some is = early-caused hash before now (status.TrustBad item number arg) (is-early (scene_end some.0) (status.TrustBad item number arg) (scene-early some.0) some.1) (as-items (status.TrustBad item number arg) before now is)
-scene-caused hash before now status.Done some is = absurd (is-early (scene_end some.0) status.Done (scene-early some.0) some.1)
-scene-caused hash before now status.NotSealed some is = absurd (is-early (scene_end some.0) status.NotSealed (scene-early some.0) some.1)
-scene-caused hash before now status.Usage some is = absurd (is-early (scene_end some.0) status.Usage (scene-early some.0) some.1)
-scene-caused hash before now status.SinkFault some is = absurd (is-early (scene_end some.0) status.SinkFault (scene-early some.0) some.1)
+pub scene-caused : (before now : ℕ) (s : Status) → ReadsSome (Err s) → ends.IsCaused {A = Scene} (Err s) before now → EarlyIsCaused before now s
+scene-caused before now status.NoMemory some is = is
+scene-caused before now (status.SceneBad line kind) some is = early-caused before now (status.SceneBad line kind) (is-early (scene_end some.0) (status.SceneBad line kind) (scene-early some.0) some.1) (as-items (status.SceneBad line kind) before now is)
+scene-caused before now (status.FileFault item) some is = early-caused before now (status.FileFault item) (is-early (scene_end some.0) (status.FileFault item) (scene-early some.0) some.1) (as-items (status.FileFault item) before now is)
+scene-caused before now (status.Limit which number) some is = early-caused before now (status.Limit which number) (is-early (scene_end some.0) (status.Limit which number) (scene-early some.0) some.1) (as-items (status.Limit which number) before now is)
+scene-caused before now (status.TrustBad item number arg) some is = early-caused before now (status.TrustBad item number arg) (is-early (scene_end some.0) (status.TrustBad item number arg) (scene-early some.0) some.1) (as-items (status.TrustBad item number arg) before now is)
+scene-caused before now status.Done some is = absurd (is-early (scene_end some.0) status.Done (scene-early some.0) some.1)
+scene-caused before now status.NotSealed some is = absurd (is-early (scene_end some.0) status.NotSealed (scene-early some.0) some.1)
+scene-caused before now status.Usage some is = absurd (is-early (scene_end some.0) status.Usage (scene-early some.0) some.1)
+scene-caused before now status.SinkFault some is = absurd (is-early (scene_end some.0) status.SinkFault (scene-early some.0) some.1)
 
-pub items-caused : (hash : Hash) (before now : ℕ) (s : Status) (heads : List Head) → OpensSome heads (Err s) → ends.IsCaused {A = OpenScene} (Err s) before now → AnswerIsCaused hash before now (Err s)
-items-caused hash before now status.NoMemory heads some is = is
-items-caused hash before now (status.SceneBad line kind) heads some is = early-caused hash before now (status.SceneBad line kind) (is-early (items_end 1 some.items) (status.SceneBad line kind) (items-early 1 some.items) some.opens) is
-items-caused hash before now (status.FileFault item) heads some is = early-caused hash before now (status.FileFault item) (is-early (items_end 1 some.items) (status.FileFault item) (items-early 1 some.items) some.opens) is
-items-caused hash before now (status.Limit which number) heads some is = early-caused hash before now (status.Limit which number) (is-early (items_end 1 some.items) (status.Limit which number) (items-early 1 some.items) some.opens) is
-items-caused hash before now (status.TrustBad item number arg) heads some is = early-caused hash before now (status.TrustBad item number arg) (is-early (items_end 1 some.items) (status.TrustBad item number arg) (items-early 1 some.items) some.opens) is
-items-caused hash before now status.Done heads some is = absurd (is-early (items_end 1 some.items) status.Done (items-early 1 some.items) some.opens)
-items-caused hash before now status.NotSealed heads some is = absurd (is-early (items_end 1 some.items) status.NotSealed (items-early 1 some.items) some.opens)
-items-caused hash before now status.Usage heads some is = absurd (is-early (items_end 1 some.items) status.Usage (items-early 1 some.items) some.opens)
-items-caused hash before now status.SinkFault heads some is = absurd (is-early (items_end 1 some.items) status.SinkFault (items-early 1 some.items) some.opens)
+pub items-caused : (before now : ℕ) (s : Status) (heads : List Head) → OpensSome heads (Err s) → ends.IsCaused {A = OpenScene} (Err s) before now → EarlyIsCaused before now s
+items-caused before now status.NoMemory heads some is = is
+items-caused before now (status.SceneBad line kind) heads some is = early-caused before now (status.SceneBad line kind) (is-early (items_end 1 some.items) (status.SceneBad line kind) (items-early 1 some.items) some.opens) is
+items-caused before now (status.FileFault item) heads some is = early-caused before now (status.FileFault item) (is-early (items_end 1 some.items) (status.FileFault item) (items-early 1 some.items) some.opens) is
+items-caused before now (status.Limit which number) heads some is = early-caused before now (status.Limit which number) (is-early (items_end 1 some.items) (status.Limit which number) (items-early 1 some.items) some.opens) is
+items-caused before now (status.TrustBad item number arg) heads some is = early-caused before now (status.TrustBad item number arg) (is-early (items_end 1 some.items) (status.TrustBad item number arg) (items-early 1 some.items) some.opens) is
+items-caused before now status.Done heads some is = absurd (is-early (items_end 1 some.items) status.Done (items-early 1 some.items) some.opens)
+items-caused before now status.NotSealed heads some is = absurd (is-early (items_end 1 some.items) status.NotSealed (items-early 1 some.items) some.opens)
+items-caused before now status.Usage heads some is = absurd (is-early (items_end 1 some.items) status.Usage (items-early 1 some.items) some.opens)
+items-caused before now status.SinkFault heads some is = absurd (is-early (items_end 1 some.items) status.SinkFault (items-early 1 some.items) some.opens)
 
 -- ---- reads
 

@@ -5,7 +5,6 @@ use Rattle.std.specs.Result.{result_ok}
 use Rattle.std.specs.List.{flat_map}
 use Rattle.pg_bytes.specs.declared.status.Status.{Status}
 use Rattle.pg_bytes.specs.declared.status.Status.TheVariants as status
-use Rattle.pg_digest.specs.Kinds.{Hash}
 use Rattle.pg_io.specs.Files.{Told}
 use Rattle.cs_policy.specs.declared.call.Call.{Call}
 use Rattle.scene_text.specs.declared.head.Head.{Head}
@@ -18,14 +17,11 @@ use Rattle.scene_open.specs.declared.open_scene.OpenScene.{OpenScene}
 use Rattle.scene_open.specs.Ends.{text_end, scene_end, IsSceneOf, ReadsScene, OpensTo, Opens}
 use Rattle.scene_open.specs.Items.{Item, heads_of, path_of, told_behind, items_told, items_end}
 use Rattle.scene_open.specs.Opening.{opening_of, opening_with}
-use Rattle.scene_run.specs.Ending.{heads_in, scripts_from, scripts_in, lines_found, Run, unless_ends, run_items, run_found, IsOfSome, PrintsLegal, RunsLegal, GoesTo, Answers}
-use Rattle.std.specs.Io.KnownBytes.{append_known}
-use Rattle.scene_run.specs.Runs.{RunsSolo}
+use Rattle.scene_run.specs.Ending.{heads_in, scripts_from, scripts_in, lines_found, Run, unless_ends, run_items, run_found, run_with, IsOfSome, Prints, PrintsSome, GoesTo, EndsAt}
 use Rattle.pg_report.specs.Journal.{journal}
 use Rattle.pg_history.specs.Machine.{Line}
 use Rattle.pg_history.specs.Opening.{Opening}
 use Rattle.pg_history.specs.Legal.{calls_in}
-use Rattle.pg_history.proofs.SoloFacts.{ordered_is_solo}
 
 -- ---- the header lines and the scripts of a scene's lines
 
@@ -87,16 +83,16 @@ goes-on told found scene is =
 ends-found : (told : Told) (found : Option (List ℕ)) (s : Status) → scene_end found ≡ Some s → run_found told found ≡ Err s
 ends-found told found s is = ap (λ e. unless_ends e (run_items (items_told told (heads_in (lines_found found))) (scripts_in (lines_found found)))) is
 
-pub scene-ends : (hash : Hash) (told : Told) (found : Option (List ℕ)) (s : Status) → ReadsScene found (Err s) → Answers hash (run_found told found) (Err s)
-scene-ends hash told found status.NoMemory is = tt
-scene-ends hash told found status.Done is = ends-found told found _ is
-scene-ends hash told found status.NotSealed is = ends-found told found _ is
-scene-ends hash told found status.Usage is = ends-found told found _ is
-scene-ends hash told found (status.SceneBad line kind) is = ends-found told found _ is
-scene-ends hash told found (status.FileFault item) is = ends-found told found _ is
-scene-ends hash told found status.SinkFault is = ends-found told found _ is
-scene-ends hash told found (status.Limit which number) is = ends-found told found _ is
-scene-ends hash told found (status.TrustBad item number arg) is = ends-found told found _ is
+pub scene-ends : (told : Told) (found : Option (List ℕ)) (s : Status) → ReadsScene found (Err s) → EndsAt (run_found told found) s
+scene-ends told found status.NoMemory is = tt
+scene-ends told found status.Done is = ends-found told found _ is
+scene-ends told found status.NotSealed is = ends-found told found _ is
+scene-ends told found status.Usage is = ends-found told found _ is
+scene-ends told found (status.SceneBad line kind) is = ends-found told found _ is
+scene-ends told found (status.FileFault item) is = ends-found told found _ is
+scene-ends told found status.SinkFault is = ends-found told found _ is
+scene-ends told found (status.Limit which number) is = ends-found told found _ is
+scene-ends told found (status.TrustBad item number arg) is = ends-found told found _ is
 
 -- ---- its items
 
@@ -107,33 +103,37 @@ heads-told told (h ∷ hs) = ap (λ xs. h ∷ xs) (heads-told (told_behind told 
 ends-items : (items : List Item) (scripts : List (List Call)) (s : Status) → items_end 1 items ≡ Some s → run_items items scripts ≡ Err s
 ends-items items scripts s is = ap (λ e. unless_ends e (Ok (record { opening = opening_of items; scripts = scripts }))) is
 
-items-end : (hash : Hash) (items : List Item) (scripts : List (List Call)) (s : Status) → Opens items (Err s) → Answers hash (run_items items scripts) (Err s)
-items-end hash items scripts status.NoMemory is = tt
-items-end hash items scripts status.Done is = ends-items items scripts _ is
-items-end hash items scripts status.NotSealed is = ends-items items scripts _ is
-items-end hash items scripts status.Usage is = ends-items items scripts _ is
-items-end hash items scripts (status.SceneBad line kind) is = ends-items items scripts _ is
-items-end hash items scripts (status.FileFault item) is = ends-items items scripts _ is
-items-end hash items scripts status.SinkFault is = ends-items items scripts _ is
-items-end hash items scripts (status.Limit which number) is = ends-items items scripts _ is
-items-end hash items scripts (status.TrustBad item number arg) is = ends-items items scripts _ is
+items-end : (items : List Item) (scripts : List (List Call)) (s : Status) → Opens items (Err s) → EndsAt (run_items items scripts) s
+items-end items scripts status.NoMemory is = tt
+items-end items scripts status.Done is = ends-items items scripts _ is
+items-end items scripts status.NotSealed is = ends-items items scripts _ is
+items-end items scripts status.Usage is = ends-items items scripts _ is
+items-end items scripts (status.SceneBad line kind) is = ends-items items scripts _ is
+items-end items scripts (status.FileFault item) is = ends-items items scripts _ is
+items-end items scripts status.SinkFault is = ends-items items scripts _ is
+items-end items scripts (status.Limit which number) is = ends-items items scripts _ is
+items-end items scripts (status.TrustBad item number arg) is = ends-items items scripts _ is
 
-pub items-ends : (hash : Hash) (told : Told) (found : Option (List ℕ)) (scene : Scene) (s : Status) → IsSceneOf found scene
-    → Opens (items_told told scene.head) (Err s) → Answers hash (run_found told found) (Err s)
-items-ends hash told found scene s is ends =
-    subst (λ goes. Answers hash goes (Err s)) (sym (goes-on told found scene is)) (items-end hash (items_told told scene.head) scene.scripts s ends)
+pub items-ends : (told : Told) (found : Option (List ℕ)) (scene : Scene) (s : Status) → IsSceneOf found scene
+    → Opens (items_told told scene.head) (Err s) → EndsAt (run_found told found) s
+items-ends told found scene s is ends =
+    subst (λ goes. EndsAt goes s) (sym (goes-on told found scene is)) (items-end (items_told told scene.head) scene.scripts s ends)
 
--- the run goes from the opening of what was opened
-pub goes-from : (told : Told) (found : Option (List ℕ)) (scene : Scene) (o : OpenScene) → IsSceneOf found scene → OpensTo (items_told told scene.head) o
-    → run_found told found ≡ Ok (record { opening = opening_with scene.head o.files.items o.layouts.items o.trust; scripts = scene.scripts })
-goes-from told found scene o is opens =
-    goes-on told found scene is
-    ∙ ap (λ e. unless_ends e (Ok (record { opening = opening_of (items_told told scene.head); scripts = scene.scripts }))) opens.passes
-    ∙ ap (λ op. Ok (record { opening = op; scripts = scene.scripts })) opening-same
+-- a run over items that were opened goes from the opening of what they opened to
+pub items-go : (told : Told) (heads : List Head) (scripts : List (List Call)) (o : OpenScene) → OpensTo (items_told told heads) o
+    → run_items (items_told told heads) scripts ≡ Ok (record { opening = opening_with heads o.files.items o.layouts.items o.trust; scripts = scripts })
+items-go told heads scripts o opens =
+    ap (λ e. unless_ends e (Ok (record { opening = opening_of (items_told told heads); scripts = scripts }))) opens.passes
+    ∙ ap (λ op. Ok (record { opening = op; scripts = scripts })) opening-same
   where
-    opening-same : opening_of (items_told told scene.head) ≡ opening_with scene.head o.files.items o.layouts.items o.trust
+    opening-same : opening_of (items_told told heads) ≡ opening_with heads o.files.items o.layouts.items o.trust
     opening-same =
-        (λ i. opening_with (heads-told told scene.head i) (sym opens.files i) (sym opens.layouts i) (sym opens.trust i))
+        (λ i. opening_with (heads-told told heads i) (sym opens.files i) (sym opens.layouts i) (sym opens.trust i))
+
+-- the same of a scene that was read
+pub goes-from : (told : Told) (found : Option (List ℕ)) (scene : Scene) (o : OpenScene) → IsSceneOf found scene → OpensTo (items_told told scene.head) o
+    → run_found told found ≡ Ok (run_with scene o)
+goes-from told found scene o is opens = goes-on told found scene is ∙ items-go told scene.head scene.scripts o opens
 
 -- the header lines that were found
 pub heads-found : (found : Option (List ℕ)) (scene : Scene) → IsSceneOf found scene → heads_in (lines_found found) ≡ scene.head
@@ -142,27 +142,25 @@ heads-found found scene is =
 
 -- ---- the journal
 
-pub prints-legal : (hash : Hash) (o : Opening) (scripts : List (List Call)) (history : List Line) (text : List ℕ) → RunsSolo hash o scripts history
-    → text ≡ journal history (calls_in scripts) → PrintsLegal hash (record { opening = o; scripts = scripts }) text
-prints-legal hash o scripts history text runs printed = record {
-  history = history;
-  printed = printed;
-  sound = runs.sound;
-  only = λ other legal order. ordered_is_solo hash o scripts other legal order ∙ sym runs.is_solo;
+pub goes-to : (gives : Opening → List (List Call) → List Line → Type 0) (goes : Result Run Status) (run : Run) (history : List Line) (text : List ℕ)
+    → goes ≡ Ok run → gives run.opening run.scripts history → text ≡ journal history (calls_in run.scripts) → GoesTo (Prints gives) goes text
+goes-to gives goes run history text is given printed = record {
+  run = run;
+  is = is;
+  prints = record { history = history; printed = printed; given = given };
 }
 
-pub goes-to : (hash : Hash) (goes : Result Run Status) (o : Opening) (scripts : List (List Call)) (history : List Line) (text : List ℕ)
-    → goes ≡ Ok (record { opening = o; scripts = scripts }) → RunsSolo hash o scripts history → text ≡ journal history (calls_in scripts) → GoesTo hash goes text
-goes-to hash goes o scripts history text is runs printed = record {
-  run = record { opening = o; scripts = scripts };
-  is = is;
-  same = printed ∙ ap (λ h. journal h (calls_in scripts)) runs.is_solo;
-  prints = prints-legal hash o scripts history text runs printed;
+pub prints-some : (gives : Opening → List (List Call) → List Line → Type 0) (run : Run) (history : List Line) (text : List ℕ)
+    → IsOfSome run → gives run.opening run.scripts history → text ≡ journal history (calls_in run.scripts) → PrintsSome (Prints gives) text
+prints-some gives run history text some given printed = record {
+  run = run;
+  of_some = some;
+  prints = record { history = history; printed = printed; given = given };
 }
 
 -- a scene and items that were opened are those of some bytes
 pub of-some : (found : Option (List ℕ)) (scene : Scene) (items : List Item) (o : OpenScene) → IsSceneOf found scene → heads_of items ≡ scene.head → OpensTo items o
-    → IsOfSome (record { opening = opening_with scene.head o.files.items o.layouts.items o.trust; scripts = scene.scripts })
+    → IsOfSome (run_with scene o)
 of-some found scene items o is heads opens = record {
   found = found;
   items = items;
@@ -178,9 +176,3 @@ of-some found scene items o is heads opens = record {
   where
     scripts-found : scripts_in (lines_found found) ≡ scene.scripts
     scripts-found = ap (λ f. scripts_in (lines_found f)) is.read ∙ ap (λ ls. scripts_in ls) (lines-said is.text scene is.says) ∙ scene-scripts scene
-
--- ---- the end of a run
-
-pub legal-run : (hash : Hash) (goes : Result Run Status) (before now : Option (List ℕ)) (text : List ℕ)
-    → GoesTo hash goes text → now ≡ append_known before text → RunsLegal hash goes before now
-legal-run hash goes before now text to wrote = record { run = to.run; is = to.is; text = text; wrote = wrote; prints = to.prints }

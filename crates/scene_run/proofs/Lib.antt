@@ -8,3 +8,5 @@ pub mod LinesFacts
 pub mod CauseFacts
 pub mod TurnFacts
 pub mod SoloFacts
+pub mod SoloEndFacts
+pub mod AnswerFacts

@@ -48,7 +48,7 @@ part-below numbers (place.File number) here = omega (arith, here)
 part-below numbers (place.Process pid) here = omega (arith, here)
 part-below numbers place.Trust here = omega arith
 
-given-is : (numbers : Numbers) (scripts : List (List Call)) (worker : ℕ) (at : Place) → worker < length scripts → IsPlaceIn numbers at
+pub given-is : (numbers : Numbers) (scripts : List (List Call)) (worker : ℕ) (at : Place) → worker < length scripts → IsPlaceIn numbers at
     → given_to numbers (map (row_of (length numbers.files) numbers.processes) scripts) worker at ≡ calls_use (slice_index_or scripts worker []) at
 given-is numbers scripts worker at lt here =
     ap (λ row. slice_index_or row (part_number (length numbers.files) numbers.processes at) nothing_needed)

@@ -1,5 +1,5 @@
 -- How a run ends: its status, and the text that it writes.
-use Rattle.std.specs.Prelude.{ℕ, ◌≡◌, ◌≢◌, ◌≤◌, ◌+◌, List, [], ◌∷◌, codes, Option, Some, None, unwrap_or, Result, Ok, Err, if◌then◌else◌}
+use Rattle.std.specs.Prelude.{ℕ, ◌≡◌, ◌⊎◌, ◌≤◌, ◌+◌, List, [], ◌∷◌, codes, Option, Some, None, unwrap_or, Result, Ok, Err, if◌then◌else◌}
 use Rattle.std.specs.Result.{result_err, result_ok}
 use Rattle.std.specs.Global.{Vec}
 use Rattle.std.specs.Str.{bytes_eq}
@@ -16,13 +16,15 @@ use Rattle.pg_history.specs.Opening.{Opening}
 use Rattle.pg_history.specs.Legal.{Legal, calls_in}
 use Rattle.pg_history.specs.Solo.{solo, InOrder}
 use Rattle.scene_text.specs.declared.head.Head.{Head}
+use Rattle.scene_text.specs.declared.whole.Scene.{Scene}
 use Rattle.scene_text.specs.declared.line.Line.TheVariants as line
 use Rattle.scene_text.specs.declared.line.Line as scene_line
 use Rattle.scene_text.specs.Texts.{said}
 use Rattle.pg_report.specs.Journal.{journal}
 use Rattle.scene_open.specs.Ends.{scene_end}
 use Rattle.scene_open.specs.Items.{Item, heads_of, items_told, items_end, files_named}
-use Rattle.scene_open.specs.Opening.{opening_of}
+use Rattle.scene_open.specs.Opening.{opening_of, opening_with}
+use Rattle.scene_open.specs.declared.open_scene.OpenScene.{OpenScene}
 use Rattle.scene_run.specs.Texts.{early_line}
 use Rattle.scene_run.specs.Runs.{IsSound}
 
@@ -130,6 +132,12 @@ Ends ending other before now = (other ≡ ending.status) × (now ≡ append_know
 
 -- ---- what a run that is done has printed
 
+-- The text is the journal of such a history of the run's scripts from its opening.
+pub record Prints (gives : Opening → List (List Call) → List Line → Type 0) (run : Run) (text : List ℕ) : Type 0 where
+  pub history : List Line
+  pub printed : text ≡ journal history (calls_in run.scripts)
+  pub given : gives run.opening run.scripts history
+
 -- The text is the journal of a legal history of the run's scripts from its opening, throughout which the sealing stands.
 -- No other legal history has the entries of each script before those of the next.
 pub record PrintsLegal (hash : Hash) (run : Run) (text : List ℕ) : Type 0 where
@@ -138,13 +146,16 @@ pub record PrintsLegal (hash : Hash) (run : Run) (text : List ℕ) : Type 0 wher
   pub sound : IsSound hash run.opening run.scripts history
   pub only : (other : List Line) → Legal hash run.opening run.scripts other → InOrder other → other ≡ history
 
--- no step ended the run, and what it has written is such a text
-pub record RunsLegal (hash : Hash) (goes : Result Run Status) (before now : Option (List ℕ)) : Type 0 where
+-- no step ended the run, and what it has written is such a text of it
+pub record RunsTo (IsText : Run → List ℕ → Type 0) (goes : Result Run Status) (before now : Option (List ℕ)) : Type 0 where
   pub run : Run
   pub is : goes ≡ Ok run
   pub text : List ℕ
   pub wrote : now ≡ append_known before text
-  pub prints : PrintsLegal hash run text
+  pub prints : IsText run text
+
+abbrev pub RunsLegal : Hash → Result Run Status → Option (List ℕ) → Option (List ℕ) → Type 0
+RunsLegal hash = RunsTo (PrintsLegal hash)
 
 -- The run is that of a scene and its items for some bytes of their files, of which none ends it early.
 pub record IsOfSome (run : Run) : Type 0 where
@@ -156,63 +167,106 @@ pub record IsOfSome (run : Run) : Type 0 where
   pub lines : heads_of items ≡ heads_in (lines_found found)
   pub goes : run_items items (scripts_in (lines_found found)) ≡ Ok run
 
--- the same of a run over some bytes, whatever the files tell
-pub record PrintsSome (hash : Hash) (text : List ℕ) : Type 0 where
+-- it is such a text of a run over some bytes, whatever the files tell
+pub record PrintsSome (IsText : Run → List ℕ → Type 0) (text : List ℕ) : Type 0 where
   pub run : Run
   pub of_some : IsOfSome run
-  pub prints : PrintsLegal hash run text
+  pub prints : IsText run text
+
+-- ---- how far a run goes before its scripts
+
+-- the run of a scene that was read, and of what its items opened to
+abbrev pub run_with : Scene → OpenScene → Run
+run_with scene opened = record {
+  opening = opening_with scene.head opened.files.items opened.layouts.items opened.trust;
+  scripts = scene.scripts;
+}
+
+-- it ends with this status before its scripts; want of memory is tied to nothing
+abbrev pub EndsAt : Result Run Status → Status → Type 0
+EndsAt goes status.NoMemory = Unit {0}
+EndsAt goes s = goes ≡ Err s
+
+-- what the scene and its items opened to is what the run goes on with, or this is the status of its early end
+abbrev pub GoesOn : Result Run Status → Result (Scene × OpenScene) Status → Type 0
+GoesOn goes (Ok both) = goes ≡ Ok (run_with both.0 both.1)
+GoesOn goes (Err s) = EndsAt goes s
+
+-- What each status of an early end comes by: the count of the files' faults before and now. The others do not come.
+abbrev pub EarlyIsCaused : ℕ → ℕ → Status → Type 0
+EarlyIsCaused before now (status.SceneBad line kind) = now ≡ before
+EarlyIsCaused before now (status.FileFault item) = Rose before now
+EarlyIsCaused before now (status.Limit which number) = now ≡ before
+EarlyIsCaused before now (status.TrustBad item number arg) = now ≡ before
+EarlyIsCaused before now status.NoMemory = now ≡ before
+EarlyIsCaused before now other = ⊥
+
+-- the same of what a scene and its items were found to open to, which is a run over some bytes
+abbrev pub StartIsCaused : ℕ → ℕ → Result (Scene × OpenScene) Status → Type 0
+StartIsCaused before now (Ok both) = (now ≡ before) × IsOfSome (run_with both.0 both.1)
+StartIsCaused before now (Err s) = EarlyIsCaused before now s
 
 -- ---- the text of a run
 
--- Nothing ends the run early, and this is its journal.
-pub record GoesTo (hash : Hash) (goes : Result Run Status) (text : List ℕ) : Type 0 where
+-- nothing ends the run early, and this is such a text of it
+pub record GoesTo (IsText : Run → List ℕ → Type 0) (goes : Result Run Status) (text : List ℕ) : Type 0 where
   pub run : Run
   pub is : goes ≡ Ok run
-  pub same : text ≡ journal (solo hash run.opening run.scripts) (calls_in run.scripts)
-  pub prints : PrintsLegal hash run text
+  pub prints : IsText run text
 
--- what was answered is the run's journal, or the status of its early end; want of memory is tied to nothing
-abbrev pub Answers : Hash → Result Run Status → Result (Vec ℕ) Status → Type 0
-Answers hash goes (Ok text) = GoesTo hash goes text.items
-Answers hash goes (Err status.NoMemory) = Unit {0}
-Answers hash goes (Err s) = goes ≡ Err s
+-- what was answered is such a text of the run, or the status of its early end
+abbrev pub Answers : (Run → List ℕ → Type 0) → Result Run Status → Result (Vec ℕ) Status → Type 0
+Answers IsText goes (Ok text) = GoesTo IsText goes text.items
+Answers IsText goes (Err s) = EndsAt goes s
 
--- ---- causes
+-- the cause of what was answered: a text is that of a run over some bytes
+abbrev pub AnswerIsCaused : (Run → List ℕ → Type 0) → ℕ → ℕ → Result (Vec ℕ) Status → Type 0
+AnswerIsCaused IsText before now (Ok text) = (now ≡ before) × PrintsSome IsText text.items
+AnswerIsCaused IsText before now (Err s) = EarlyIsCaused before now s
 
--- What each status of a run over some path comes by, where this is its text: the count of the files' faults before and now.
--- The others do not come.
-abbrev pub IsCaused : Hash → ℕ → ℕ → Status → List ℕ → Type 0
-IsCaused hash before now status.Done text = (now ≡ before) × PrintsSome hash text
-IsCaused hash before now (status.SceneBad line kind) text = (now ≡ before) × (text ≡ early_line (status.SceneBad line kind))
-IsCaused hash before now (status.FileFault item) text = Rose before now × (text ≡ early_line (status.FileFault item))
-IsCaused hash before now (status.Limit which number) text = (now ≡ before) × (text ≡ early_line (status.Limit which number))
-IsCaused hash before now (status.TrustBad item number arg) text = (now ≡ before) × (text ≡ early_line (status.TrustBad item number arg))
-IsCaused hash before now other text = ⊥
+-- the run ends early by its one line, or is done with such a text of it
+abbrev pub IsEndOf : (Run → List ℕ → Type 0) → Result Run Status → Ending → Type 0
+IsEndOf IsText (Err s) ending = ending ≡ early_end s
+IsEndOf IsText (Ok run) ending = (ending.status ≡ status.Done) × IsText run ending.text
 
--- the same of any words: where they name no path, the run ends by the usage line
-abbrev pub IsCausedBy : Hash → Option (List ℕ) → ℕ → ℕ → Status → List ℕ → Type 0
-IsCausedBy hash None before now s text = (s ≡ status.Usage) × (text ≡ early_line status.Usage) × (now ≡ before)
-IsCausedBy hash (Some path) before now s text = IsCaused hash before now s text
+-- The run has the status and the text of such an end. Where the sink faults, its text is cut short; where memory runs out,
+-- nothing is written.
+abbrev pub EndsTo : (Run → List ℕ → Type 0) → Result Run Status → Status → Option (List ℕ) → Option (List ℕ) → Type 0
+EndsTo IsText goes status.NoMemory before now = now ≡ before
+EndsTo IsText goes other before now = (ending : Ending) × IsEndOf IsText goes ending × Ends ending other before now
 
--- the same of what a run was found to answer: a journal, or the status of an early end
-abbrev pub AnswerIsCaused : Hash → ℕ → ℕ → Result (Vec ℕ) Status → Type 0
-AnswerIsCaused hash before now (Ok text) = (now ≡ before) × PrintsSome hash text.items
-AnswerIsCaused hash before now (Err status.NoMemory) = now ≡ before
-AnswerIsCaused hash before now (Err status.Done) = ⊥
-AnswerIsCaused hash before now (Err s) = IsCaused hash before now s (early_line s)
+-- ---- what goes out
 
--- Words that name no path end the run by the usage line, and no others do. A fault of the sink or want of memory may come
--- in its place.
-abbrev pub EndsByPath : Option (List ℕ) → Status → Option (List ℕ) → Option (List ℕ) → Type 0
-EndsByPath None s before now = Ends (early_end status.Usage) s before now
-EndsByPath (Some path) s before now = s ≢ status.Usage
+-- the status is one with which a run can end before its scripts
+abbrev pub IsEarlyEnd : Status → Type 0
+IsEarlyEnd status.Usage = Unit {0}
+IsEarlyEnd (status.SceneBad line kind) = Unit {0}
+IsEarlyEnd (status.FileFault item) = Unit {0}
+IsEarlyEnd (status.Limit which number) = Unit {0}
+IsEarlyEnd (status.TrustBad item number arg) = Unit {0}
+IsEarlyEnd status.NoMemory = Unit {0}
+IsEarlyEnd other = ⊥
 
--- where a run ends early, its one line went out; where it is done, the journal of a legal history did
+-- the whole text went out, and this is its status; or the sink faulted, and a first part of the text went out
+abbrev pub GoesOut : Ending → Status → Option (List ℕ) → Option (List ℕ) → Type 0
+GoesOut ending s before now =
+    ((s ≡ ending.status) × (now ≡ append_known before ending.text)) ⊎ ((s ≡ status.SinkFault) × SentPart before now ending.text)
+
+-- so what was answered goes out: a text, or the line of an early end; for want of memory nothing does
+abbrev pub EndsBy : Result (Vec ℕ) Status → Status → Option (List ℕ) → Option (List ℕ) → Type 0
+EndsBy (Ok text) s before now = GoesOut (record { status = status.Done; text = text.items }) s before now
+EndsBy (Err status.NoMemory) s before now = (s ≡ status.NoMemory) × (now ≡ before)
+EndsBy (Err kind) s before now = GoesOut (early_end kind) s before now
+
+-- where a run ends early, its one line went out; where it is done, such a text of some run did
+abbrev pub SaysBy : (Run → List ℕ → Type 0) → Status → Option (List ℕ) → Option (List ℕ) → Type 0
+SaysBy IsText status.Done before now = (text : List ℕ) × (now ≡ append_known before text) × PrintsSome IsText text
+SaysBy IsText status.SinkFault before now = Unit {0}
+SaysBy IsText status.NoMemory before now = now ≡ before
+SaysBy IsText other before now = now ≡ append_known before (early_line other)
+
 abbrev pub Says : Hash → Status → Option (List ℕ) → Option (List ℕ) → Type 0
-Says hash status.Done before now = (text : List ℕ) × (now ≡ append_known before text) × PrintsSome hash text
-Says hash status.SinkFault before now = Unit {0}
-Says hash status.NoMemory before now = now ≡ before
-Says hash other before now = now ≡ append_known before (early_line other)
+Says hash = SaysBy (PrintsLegal hash)
 
 -- The count of the files' faults rises where the run ends with a file that could not be read, and else stays; a fault of
 -- the sink may come in the place of that end.

@@ -1,77 +1,21 @@
-//! How a run ends: everything that it does before it writes.
+//! How a run ends: its text, and the one write of it.
 
-ghost use Rattle.std.specs.Prelude.{◌≡◌, ◌≤◌, ◌<◌, ◌^◌, ℕ, length, Some, None, IfOk, OnOk, OnErr, option_map};
-ghost use Rattle.pg_digest.specs.Digests.{sha_hash};
-ghost use Rattle.pg_io.specs.Files.{Told, next_read};
+ghost use Rattle.std.specs.Prelude.{◌≡◌, ◌≢◌, ◌<◌, ◌^◌, IfOk, IfErr};
+ghost use Rattle.pg_bytes.specs.Counts.{Rose};
 ghost use Rattle.pg_history.specs.Legal.{calls_in};
-ghost use Rattle.scene_open.specs.Items.{ReadsWithin};
-ghost use Rattle.scene_run.specs.Ending as endings;
-ghost use Rattle.scene_run.specs.Ending.{run_path, run_by, most_reads, reads_by, Answers, AnswerIsCaused, IsCausedBy, GoesTo};
+ghost use Rattle.pg_report.specs.Journal.{journal, summary};
+ghost use Rattle.scene_text.specs.Scenes.{scene_lines};
+ghost use Rattle.scene_open.specs.Limits.{IsWithin};
+ghost use Rattle.scene_run.specs.Ending.{IsEarlyEnd, GoesOut, EndsBy};
 
 use crate::NoMemory;
-use crate::early::{Line, early_line};
-use crate::solo::run_solo;
+use crate::early::early_line;
+use cs_policy::Entry;
+use pg_book::Stamped;
 use pg_bytes::Status;
-use pg_io::Files;
-use pg_report::journal;
-use scene_open::{open_items, read_scene};
-use scene_text::Calls;
+use pg_io::{Sink, write_whole};
+use scene_text::{Calls, Scene};
 use std::alloc::Global;
-use std::marker::Model;
-
-// The text of an ending.
-#[derive(Drop)]
-enum Text {
-    // The line of an early end, which takes no memory.
-    Early(Line),
-    // A journal.
-    Made(Vec<u8>),
-}
-
-/// A status, and the whole text that goes with it.
-#[derive(Drop)]
-pub(crate) struct Ending {
-    status: Status,
-    text: Text,
-}
-
-impl Model for Ending {
-    ghost use Rattle.scene_run.specs.Ending.{Ending};
-    ghost use Rattle.scene_run.specs.EndingView.{text_in};
-
-    ghost Value = { Ending };
-
-    ghost view = { λ e. record { status = e.status; text = text_in e.text } };
-}
-
-impl Ending {
-    // The status.
-    pub(crate) fn status(&self) -> Status
-        ensures { result ≡ self.now.status }
-    {
-        self.status
-    }
-
-    // The bytes of the text.
-    pub(crate) fn text(&self) -> &[u8]
-        ensures { result.now ≡ self.now.text }
-    {
-        match &self.text {
-            Text::Early(line) => line.as_str().as_bytes(),
-            Text::Made(bytes) => bytes,
-        }
-    }
-}
-
-// An early end with its one line.
-fn early(status: Status) -> Ending
-    ensures { result ≡ endings.early_end status }
-{
-    Ending {
-        status,
-        text: Text::Early(early_line(&status)),
-    }
-}
 
 // How many calls scripts have.
 fn calls_in(scripts: &[Calls]) -> u64
@@ -85,59 +29,57 @@ fn calls_in(scripts: &[Calls]) -> u64
     calls
 }
 
-// The journal of the scene in the file of this path, or the status of the run's early end.
-fn journal_of<F: Files>(alloc: Global, path: &str, files: &mut F) -> Result<Vec<u8>, Status>
-    ensures told { (told : Told) → F.tells files.old ≡ Some told →
-        Answers sha_hash (run_path told path.now) result }
-    ensures cause { AnswerIsCaused sha_hash (F.faults files.old) (F.faults files.new) result }
-    ensures reads { (told : Told) → F.tells files.old ≡ Some told →
-        ReadsWithin told (most_reads (next_read told path.now)) (F.tells files.new) }
+/// The journal of a history of the scene's scripts. The only error is want of memory.
+pub fn journal_of(
+    alloc: Global,
+    scene: &Scene,
+    history: &[Stamped<Entry>],
+) -> Result<Vec<u8>, NoMemory>
+    requires within { IsWithin (scene_lines scene.now) }
+    ensures { IfOk result (λ text. text.items ≡ journal history.now (calls_in scene.now.scripts)) }
 {
-    let scene = match read_scene(alloc, path, files) {
-        Ok(scene) => scene,
-        Err(status) => return Err(status),
-    };
-    let opened = match open_items(alloc, &scene, files) {
-        Ok(opened) => opened,
-        Err(status) => return Err(status),
-    };
-    let calls = calls_in(scene.scripts.items());
-    let Ok(history) = run_solo(alloc, &scene, opened.files, opened.layouts, opened.trust) else {
-        return Err(Status::NoMemory);
-    };
-    let Ok(text) = journal(alloc, &history, calls) else {
-        return Err(Status::NoMemory);
-    };
-    Ok(text)
+    pg_report::journal(alloc, history, calls_in(scene.scripts.items()))
 }
 
-/// How the run ends over the scene in the file of this path, or where there is no path.
-pub(crate) fn ended<F: Files>(
+/// The summary lines of a history of the scene's scripts. The only error is want of memory.
+pub fn summary_of(
     alloc: Global,
-    path: Option<&str>,
-    files: &mut F,
-) -> Result<Ending, NoMemory>
-    ensures told { (told : Told) → F.tells files.old ≡ Some told → IfOk result (λ e.
-        e ≡ endings.ended sha_hash (run_by told (option_map (λ p. p.now) path.entry))) }
-    ensures done { (told : Told) → F.tells files.old ≡ Some told →
-        IfOk result (λ e. e.status ≡ Status.Done →
-        GoesTo sha_hash (run_by told (option_map (λ p. p.now) path.entry)) e.text) }
-    ensures cause { IfOk result (λ e. IsCausedBy sha_hash (option_map (λ p. p.now) path.entry)
-        (F.faults files.old) (F.faults files.new) e.status e.text) }
-    ensures no_fault { OnErr result (F.faults files.new ≡ F.faults files.old) }
-    ensures reads { (told : Told) → F.tells files.old ≡ Some told →
-        ReadsWithin told (reads_by (option_map (λ p. p.now) path.entry) told) (F.tells files.new) }
-    ensures quiet { path.entry ≡ None → files.new ≡ files.old }
+    scene: &Scene,
+    history: &[Stamped<Entry>],
+) -> Result<Vec<u8>, NoMemory>
+    requires within { IsWithin (scene_lines scene.now) }
+    ensures { IfOk result (λ text. text.items ≡ summary history.now (calls_in scene.now.scripts)) }
 {
-    let Some(path) = path else {
-        return Ok(early(Status::Usage));
-    };
-    match journal_of(alloc, path, files) {
-        Ok(text) => Ok(Ending {
-            status: Status::Done,
-            text: Text::Made(text),
-        }),
-        Err(Status::NoMemory) => Err(NoMemory),
-        Err(status) => Ok(early(status)),
+    pg_report::summary(alloc, history, calls_in(scene.scripts.items()))
+}
+
+// Writes a text, with whose end the run has this status.
+fn write_text<K: Sink>(text: &[u8], status: Status, out: &mut K) -> Status
+    requires known { status ≢ Status.SinkFault }
+    ensures ends { GoesOut (record { status = status; text = text.now }) result
+        (K.written out.old) (K.written out.new) }
+    ensures sound { result ≢ Status.SinkFault → K.faults out.new ≡ K.faults out.old }
+    ensures sink_fault { result ≡ Status.SinkFault →
+        Rose (K.faults out.old) (K.faults out.new) }
+{
+    match write_whole(out, text) {
+        Ok(()) => status,
+        Err(_) => Status::SinkFault,
+    }
+}
+
+/// Ends a run by one write of its whole text: of a journal, with which the status is Done, or of the one line of an early end,
+/// which takes no memory. The status is SinkFault where the sink fails. For want of memory nothing is written.
+pub fn write_end<K: Sink>(answer: Result<Vec<u8>, Status>, out: &mut K) -> Status
+    requires early { IfErr answer IsEarlyEnd }
+    ensures ends { EndsBy answer result (K.written out.old) (K.written out.new) }
+    ensures sound { result ≢ Status.SinkFault → K.faults out.new ≡ K.faults out.old }
+    ensures sink_fault { result ≡ Status.SinkFault →
+        Rose (K.faults out.old) (K.faults out.new) }
+{
+    match answer {
+        Ok(text) => write_text(&text, Status::Done, out),
+        Err(Status::NoMemory) => Status::NoMemory,
+        Err(status) => write_text(early_line(&status).as_str().as_bytes(), status, out),
     }
 }

@@ -1,6 +1,6 @@
 //! Scripts one after another, on one thread.
 
-ghost use Rattle.std.specs.Prelude.{◌≡◌, ◌≤◌, [], length, vec_len, All, IfOk, OnOk, Some};
+ghost use Rattle.std.specs.Prelude.{◌≡◌, ◌≤◌, [], length, vec_len, All, IfOk, IfSome, OnOk, Some};
 ghost use Rattle.pg_digest.specs.Digests.{sha_hash};
 ghost use Rattle.pg_history.specs.Opening.{numbers_of};
 ghost use Rattle.pg_calls.specs.Calls.{IsDeclared};
@@ -12,6 +12,7 @@ ghost use Rattle.scene_open.specs.Limits.{IsWithin};
 ghost use Rattle.scene_open.specs.Opening.{opening_with};
 ghost use Rattle.scene_open.specs.Fits.{IsOpeningFor};
 ghost use Rattle.scene_run.specs.Needs.{needs_of};
+ghost use Rattle.scene_run.specs.Starts.{IsStartOf};
 ghost use Rattle.scene_run.specs.Turns.{PlaysAll};
 ghost use Rattle.scene_run.specs.Runs.{RunsSolo};
 
@@ -30,8 +31,9 @@ use scene_open::{is_adhoc, page_size, resident};
 use scene_text::{Calls, Scene};
 use std::alloc::Global;
 
-// The parts of a scene's machine, with room for all that its scripts need.
-fn open_parts(
+/// The parts of a scene's machine, which its items open to, with room for all that its scripts need. The only error is want
+/// of memory.
+pub fn open_parts(
     alloc: Global,
     scene: &Scene,
     files: Vec<MemPager>,
@@ -98,6 +100,26 @@ fn play_all(
     Ok(())
 }
 
+/// Runs the scripts of a scene one after another, in their order, over the parts of its machine, and gives the history. It is
+/// the one legal history of the scripts in which the entries of each script stand before those of the next. At the opening
+/// and after each entry the sealing stands, and each denial states the first rule that was broken. The only error is want of
+/// memory.
+pub fn run_alone(
+    alloc: Global,
+    scene: &Scene,
+    opened: Opened<MemPager, ShaDigester>,
+) -> Result<Vec<Stamped<Entry>>, NoMemory>
+    requires within { IsWithin (scene_lines scene.now) }
+    requires start { IsStartOf scene.now opened }
+    ensures { IfOk result (λ history. IfSome (opening_in opened) (λ o. RunsSolo sha_hash o
+        scene.now.scripts history.items)) }
+{
+    let mut solo = Solo::open(alloc, opened)?;
+    play_all(alloc, &mut solo, scene.scripts.items())?;
+    let (history, _) = solo.close();
+    Ok(history)
+}
+
 /// Runs the scripts of a scene one after another, in their order, over the files, layouts and trust list that its items
 /// open to, and gives the history. It is the one legal history of the scripts in which the entries of each script stand
 /// before those of the next. At the opening and after each entry the sealing stands, and each denial states the first rule
@@ -117,9 +139,9 @@ pub fn run_solo(
         (opening_with scene.now.head files.items layouts.items trust)
         scene.now.scripts history.items) }
 {
-    let opened = open_parts(alloc, scene, files, layouts, trust)?;
-    let mut solo = Solo::open(alloc, opened)?;
-    play_all(alloc, &mut solo, scene.scripts.items())?;
-    let (history, _) = solo.close();
-    Ok(history)
+    run_alone(
+        alloc,
+        scene,
+        open_parts(alloc, scene, files, layouts, trust)?,
+    )
 }

@@ -1,118 +1,62 @@
-//! The top calls: all that the program does.
+//! The top call of `csrun solo SCENE`.
 
-ghost use Rattle.std.specs.Prelude.{◌≡◌, ◌≢◌, ℕ, map, length, Some, None, IfOk, OnErr, string_bytes, option_map};
+ghost use Rattle.std.specs.Prelude.{◌≡◌, ◌≢◌, map, Some, string_bytes};
 ghost use Rattle.pg_bytes.specs.Counts.{Rose};
 ghost use Rattle.pg_digest.specs.Digests.{sha_hash};
-ghost use Rattle.pg_io.specs.Files.{Told};
+ghost use Rattle.pg_io.specs.Files.{Told, next_read};
 ghost use Rattle.scene_open.specs.Items.{ReadsWithin};
-ghost use Rattle.scene_run.specs.Ending as endings;
-ghost use Rattle.scene_run.specs.Ending.{AreSolo, path_of, run_by, run_of, ending_of, reads_by, Ends, EndsByPath, CountsFaults, Says, RunsLegal};
+ghost use Rattle.scene_run.specs.Ending.{AreSolo, path_of, run_path, run_of, ending_of, most_reads, reads_by, Prints, Answers, AnswerIsCaused, Ends, CountsFaults, Says, RunsLegal};
+ghost use Rattle.scene_run.specs.Runs.{RunsSolo};
 
-use crate::NoMemory;
-use crate::ending::{Ending, ended};
+use crate::ending::{journal_of, write_end};
+use crate::opening::open_path;
+use crate::solo::run_solo;
 use pg_bytes::Status;
-use pg_io::{Files, Sink, write_whole};
+use pg_io::{Files, Sink};
 use std::alloc::Global;
 
-// The path that the words name: a path alone, or behind the word `solo`.
-fn path_of<'a>(words: &'a [String]) -> Option<&'a str>
-    ensures { option_map (λ path. path.now) result ≡ path_of (map string_bytes words.now) }
+// The path behind the word `solo`.
+fn path_behind<'a>(words: &'a [String]) -> &'a str
+    requires words { AreSolo (map string_bytes words.now) }
+    ensures path { path_of (map string_bytes words.now) ≡ Some result.now }
 {
     match words {
-        [path] => Some(path.as_str()),
-        [word, path] if word.as_str() == "solo" => Some(path.as_str()),
-        _ => None,
+        [_, path] => path.as_str(),
+        _ => unreachable!(),
     }
 }
 
-// Runs the scene in the file of this path, or writes the usage line where there is none. The whole text is made before the
-// first write.
-fn run<F: Files, K: Sink>(alloc: Global, path: Option<&str>, files: &mut F, out: &mut K) -> Status
-    ensures output { (told : Told) → F.tells files.old ≡ Some told →
-        Ends (endings.ended sha_hash (run_by told (option_map (λ p. p.now) path.entry))) result
-        (K.written out.old) (K.written out.new) }
-    ensures legal { (told : Told) → F.tells files.old ≡ Some told → result ≡ Status.Done →
-        RunsLegal sha_hash (run_by told (option_map (λ p. p.now) path.entry))
-        (K.written out.old) (K.written out.new) }
-    ensures says { Says sha_hash result (K.written out.old) (K.written out.new) }
-    ensures usage { EndsByPath (option_map (λ p. p.now) path.entry) result
-        (K.written out.old) (K.written out.new) }
-    ensures faults { CountsFaults result (F.faults files.old) (F.faults files.new) }
-    ensures no_verdict { result ≢ Status.NotSealed }
+// The journal of the scene in the file of this path, its scripts one after another, or the status of the run's early end.
+fn solo_journal<F: Files>(alloc: Global, path: &str, files: &mut F) -> Result<Vec<u8>, Status>
+    ensures told { (told : Told) → F.tells files.old ≡ Some told →
+        Answers (Prints (RunsSolo sha_hash)) (run_path told path.now) result }
+    ensures cause { AnswerIsCaused (Prints (RunsSolo sha_hash))
+        (F.faults files.old) (F.faults files.new) result }
     ensures reads { (told : Told) → F.tells files.old ≡ Some told →
-        ReadsWithin told (reads_by (option_map (λ p. p.now) path.entry) told) (F.tells files.new) }
-    ensures quiet { path.entry ≡ None → files.new ≡ files.old }
-    ensures sound { result ≢ Status.SinkFault → K.faults out.new ≡ K.faults out.old }
-    ensures sink_fault { result ≡ Status.SinkFault →
-        Rose (K.faults out.old) (K.faults out.new) }
-    ensures no_memory { result ≡ Status.NoMemory → K.written out.new ≡ K.written out.old }
+        ReadsWithin told (most_reads (next_read told path.now)) (F.tells files.new) }
 {
-    let Ok(ending) = ended(alloc, path, files) else {
-        return Status::NoMemory;
+    let (scene, opened) = match open_path(alloc, path, files) {
+        Ok(both) => both,
+        Err(status) => return Err(status),
     };
-    match write_whole(out, ending.text()) {
-        Ok(()) => ending.status(),
-        Err(_) => Status::SinkFault,
-    }
+    let Ok(history) = run_solo(alloc, &scene, opened.files, opened.layouts, opened.trust) else {
+        return Err(Status::NoMemory);
+    };
+    let Ok(text) = journal_of(alloc, &scene, &history) else {
+        return Err(Status::NoMemory);
+    };
+    Ok(text)
 }
 
-/// Runs `csrun` with these words, which do not name the program: one word is the path of a scene, or two are `solo` and the
-/// path. The scripts of the scene are run one after another over the files and trust caches that it names, and the journal of
-/// their history is written.
+/// Runs `csrun solo SCENE`: these words, which do not name the program, are `solo` and the path of a scene. The scripts of the
+/// scene are run one after another over the files and trust caches that it names, and the journal of their history is
+/// written.
 ///
-/// The status is Done where the whole journal went out. Of the others Usage is for other words; SceneBad for a scene with a
-/// bad line; FileFault for a file that could not be read, with its item's number, 0 for the scene; Limit for the first limit
-/// that the scene passes; and TrustBad for a static trust cache that breaks its format. Each of these goes with its one line,
-/// which takes no memory. SinkFault is for output that could not be written whole, and NoMemory for want of memory. The whole
-/// text is made before the first write.
-pub fn csrun_main<F: Files, K: Sink>(
-    alloc: Global,
-    words: &[String],
-    files: &mut F,
-    out: &mut K,
-) -> Status
-    // Status and output are those that the words and the files' bytes fix.
-    ensures output { (told : Told) → F.tells files.old ≡ Some told →
-        Ends (ending_of sha_hash (map string_bytes words.now) told) result
-        (K.written out.old) (K.written out.new) }
-
-    // A run that is done has printed the journal of a legal history of the scene's scripts, throughout which the sealing
-    // stands, and whose denials state the first broken rule.
-    ensures legal { (told : Told) → F.tells files.old ≡ Some told → result ≡ Status.Done →
-        RunsLegal sha_hash (run_of (map string_bytes words.now) told)
-        (K.written out.old) (K.written out.new) }
-
-    // The same of a run over some bytes of the scene and of the files that it names, whatever the files tell; each early end
-    // has its one line.
-    ensures says { Says sha_hash result (K.written out.old) (K.written out.new) }
-
-    // Usage comes exactly where the words name no path.
-    ensures usage { EndsByPath (path_of (map string_bytes words.now)) result
-        (K.written out.old) (K.written out.new) }
-
-    // The count of the files' faults rises with a file that could not be read, and with no other status but that of the
-    // sink, which may come in its place. One status never comes.
-    ensures faults { CountsFaults result (F.faults files.old) (F.faults files.new) }
-    ensures no_verdict { result ≢ Status.NotSealed }
-
-    // The scene's file, and each file that a header line names, is read at most once, also where memory runs out.
-    ensures reads { (told : Told) → F.tells files.old ≡ Some told →
-        ReadsWithin told (reads_by (path_of (map string_bytes words.now)) told)
-        (F.tells files.new) }
-    ensures quiet { path_of (map string_bytes words.now) ≡ None → files.new ≡ files.old }
-
-    // A fault of the sink ends the run with its status and no other.
-    ensures sound { result ≢ Status.SinkFault → K.faults out.new ≡ K.faults out.old }
-    ensures sink_fault { result ≡ Status.SinkFault →
-        Rose (K.faults out.old) (K.faults out.new) }
-
-    // Want of memory writes nothing.
-    ensures no_memory { result ≡ Status.NoMemory → K.written out.new ≡ K.written out.old }
-{
-    run(alloc, path_of(words), files, out)
-}
-
-/// Runs `csrun solo SCENE`: these words are `solo` and a path. It is `csrun_main` on them, and its status is never Usage.
+/// The status is Done where the whole journal went out. Of the others SceneBad is for a scene with a bad line; FileFault for
+/// a file that could not be read, with its item's number, 0 for the scene; Limit for the first limit that the scene passes;
+/// and TrustBad for a static trust cache that breaks its format. Each of these goes with its one line, which takes no memory.
+/// SinkFault is for output that could not be written whole, and NoMemory for want of memory. The whole text is made before
+/// the first write.
 pub fn csrun_solo<F: Files, K: Sink>(
     alloc: Global,
     words: &[String],
@@ -157,5 +101,6 @@ pub fn csrun_solo<F: Files, K: Sink>(
     // Want of memory writes nothing.
     ensures no_memory { result ≡ Status.NoMemory → K.written out.new ≡ K.written out.old }
 {
-    csrun_main(alloc, words, files, out)
+    let answer = solo_journal(alloc, path_behind(words), files);
+    write_end(answer, out)
 }

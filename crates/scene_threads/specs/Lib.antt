@@ -1,0 +1,4 @@
+pub mod Workers
+pub mod Sound
+pub mod Words
+pub mod Made

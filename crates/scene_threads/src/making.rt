@@ -1,0 +1,63 @@
+//! The scene that is made of a number is run.
+
+ghost use Rattle.std.specs.Prelude.{◌≡◌, ◌≤◌, IfOk, IfErr};
+ghost use Rattle.pg_digest.specs.Digests.{sha_hash};
+ghost use Rattle.scene_threads.specs.Made.{PrintsMade};
+
+use crate::NoMemory;
+use crate::shared::run_shared;
+use pg_bytes::Status;
+use pg_io::Gate;
+use scene_made::made;
+use scene_open::open_items;
+use scene_run::summary_of;
+use std::alloc::Global;
+use std::sync::Wait;
+use std::thread::Threads;
+
+// The summary of a run of the scene that is made of this number, its scripts side by side.
+fn summed<R: Threads + Wait + Sync, G: Gate + Sync>(
+    rt: &R,
+    alloc: Global,
+    n: u64,
+    gate: &G,
+) -> Result<Vec<u8>, NoMemory>
+    requires least { 1 ≤ n }
+    requires most { n ≤ 1000 }
+    ensures { IfOk result (λ text. PrintsMade sha_hash n text.items) }
+{
+    let (scene, mut files) = made(alloc, n)?;
+    // No item of a made scene ends a run early: none but want of memory is left.
+    let Ok(opened) = open_items(alloc, &scene, &mut files) else {
+        return Err(NoMemory);
+    };
+    let history = run_shared(
+        rt,
+        alloc,
+        &scene,
+        opened.files,
+        opened.layouts,
+        opened.trust,
+        gate,
+    )?;
+    let text = summary_of(alloc, &scene, &history)?;
+    Ok(text)
+}
+
+/// The summary of a run of the scene that is made of a number, as the answer of a run. The only error is NoMemory.
+pub(crate) fn made_summary<R: Threads + Wait + Sync, G: Gate + Sync>(
+    rt: &R,
+    alloc: Global,
+    n: u64,
+    gate: &G,
+) -> Result<Vec<u8>, Status>
+    requires least { 1 ≤ n }
+    requires most { n ≤ 1000 }
+    ensures text { IfOk result (λ text. PrintsMade sha_hash n text.items) }
+    ensures memory { IfErr result (λ status. status ≡ Status.NoMemory) }
+{
+    match summed(rt, alloc, n, gate) {
+        Ok(text) => Ok(text),
+        Err(_) => Err(Status::NoMemory),
+    }
+}
