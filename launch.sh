@@ -1,6 +1,7 @@
 #!/bin/sh
-# Runs a program of this repository: launch.sh PROGRAM [WORD..]. Where it is not built yet, it is proved and built first,
-# with a line on the terminal for each crate that is proved. The whole log stands in out/PROGRAM.log.
+# Runs a program of this repository: launch.sh PROGRAM [WORD..]. Where it is not built yet, or a source is newer than it, it
+# is proved and built first, with a line on the terminal for each crate that is proved. The whole log stands in
+# out/PROGRAM.log.
 top=$(cd "$(dirname "$0")" && pwd)
 name=$1
 shift
@@ -43,8 +44,16 @@ show_progress() {
     done
 }
 
-if [ ! -x "$program" ]; then
+# the program is there, and no source of its crates is newer
+is_built() {
+    [ -x "$program" ] || return 1
+    newer=$(cd "$top/crates" && find $(crates_below | sed 's|$|/src|') -name '*.rt' -newer "$program" -print -quit)
+    [ -z "$newer" ]
+}
+
+if ! is_built; then
     mkdir -p "$top/out"
+    rm -f "$program"
     # rt run ends with the program's own status, so its success is told by the program that it leaves
     if [ -t 2 ]; then
         echo "$name: proving and building the program, which takes some minutes the first time" >&2
@@ -52,6 +61,8 @@ if [ ! -x "$program" ]; then
     else
         (cd "$top/crates/$name" && rt run </dev/null) >"$log" 2>&1
     fi
+    # rt may leave a program of an equal source as it was
+    [ ! -x "$program" ] || touch "$program"
 fi
 if [ ! -x "$program" ]; then
     echo "$name: the program was not built; the log is $log" >&2

@@ -3,7 +3,8 @@
 
 Run at the top of the repository after the gate, which leaves the program built: `bench/sign.py [FILE..]`. The largest
 of the given files is signed; without one, two thin files for arm64 are made, whose signed files are just below the most
-that cssign makes: one for hash pages of 4,096 bytes and one for hash pages of 16,384. Prints for each file a row a
+that cssign makes: one for hash pages of 4,096 bytes and one for hash pages of 16,384. What programs print goes to
+/dev/null, so that none waits for a reader. Prints for each file a row a
 program: its seconds, the best of five rounds that take turns, the ratio of cssign's seconds to them, and the greatest
 memory of a round in MiB, beside the file's size. The targets are a ratio of at most 1.3 to sha256sum, and memory of at
 most twice the file's size and 8 MiB.
@@ -37,11 +38,9 @@ def make_file(path: Path, limit: int) -> None:
 
 
 def timed(words: list[str]) -> tuple[float, int]:
-    """Seconds and greatest memory in bytes of one run, whose output is read and dropped."""
+    """Seconds and greatest memory in bytes of one run, whose output is dropped."""
     start = time.perf_counter()
-    child = subprocess.Popen(words, stdout=subprocess.PIPE)
-    while child.stdout.read(MIB):
-        pass
+    child = subprocess.Popen(words, stdout=subprocess.DEVNULL)
     _, status, usage = os.wait4(child.pid, 0)
     seconds = time.perf_counter() - start
     child.returncode = os.waitstatus_to_exitcode(status)

@@ -10,7 +10,7 @@ Prints for each file and each number of processors a row a program: its seconds,
 turns, the ratio of csverify's seconds to them, and the greatest memory of a round in MiB. Beside them stands how much two
 and four sha256sum side by side get done in the time of one: more than that no program can gain from as many processors.
 Then 1,000 runs on the sample of 8 KiB are timed, beside PROGRAM. The targets: on four processors a ratio of at most 0.62 to
-sha256sum and of at most 1.05 to openssl; of at most 1.02 to PROGRAM on one processor and on the sample; memory of at most
+sha256sum and of at most 1.05 to openssl by plain instructions; of at most 1.02 to PROGRAM on one processor and on the sample; memory of at most
 the file's size and 4 MiB.
 """
 import hashlib
@@ -28,6 +28,8 @@ from pathlib import Path
 # 67,108,864 bytes.
 PAGES = {12: 16_256, 14: 4_087}
 ROUNDS = 9
+# Keeps openssl from the processor's own instructions for SHA, which csverify does not use.
+NO_SHA_NI = "OPENSSL_ia32cap=:~0x20000000"
 PROCESSORS = (1, 2, 4)
 SMALL = Path("examples/verify/thin_arm64")
 SMALL_RUNS = 1_000
@@ -113,6 +115,8 @@ def compare(program: Path, one_thread: Path | None, file: Path) -> None:
     peers["sha256sum"] = ["sha256sum", str(file)]
     if shutil.which("openssl") is not None:
         peers["openssl"] = ["openssl", "dgst", "-sha256", str(file)]
+        if "sha_ni" in Path("/proc/cpuinfo").read_text():
+            peers["no sha_ni"] = ["env", NO_SHA_NI, *peers["openssl"]]
     size = file.stat().st_size
     _, _, out = timed(peers["csverify"])
     print(f"{size} bytes, {size / MIB:.1f} MiB; csverify says: {out.decode().splitlines()[-1:]}")

@@ -6,6 +6,7 @@ pub mod CommandFacts
 pub mod SizeFacts
 pub mod RoomFacts
 pub mod CacheFacts
+pub mod ListedFacts
 pub mod ReadingFacts
 pub mod EndingFacts
 pub mod AlikeFacts
@@ -13,6 +14,8 @@ pub mod PlaceFacts
 pub mod MadeFacts
 pub mod SignableFacts
 pub mod TableFacts
+pub mod TakenFacts
 pub mod DirectoryFacts
 pub mod LaidFacts
 pub mod VerifiedFacts
+pub mod SliceFacts

@@ -1,11 +1,11 @@
 -- How the files of a run are read, one after another.
-use Rattle.std.proofs.Common.{◌≡◌, ℕ, zero, suc, ◌+◌, ◌<◌, ◌≤◌, List, [], ◌∷◌, ◌++◌, length, take, drop, get_or, map, Option, Some, None, Result, Ok, Err, string_bytes, refl, sym, ap, subst, ◌∙◌, inl, inr, arith, add-one, length-take}
+use Rattle.std.proofs.Common.{◌≡◌, ℕ, zero, suc, ◌+◌, ◌-◌, ◌<◌, ◌≤◌, List, [], ◌∷◌, ◌++◌, length, take, drop, get_or, map, replicate, Option, Some, None, Result, Ok, Err, string_bytes, refl, sym, ap, subst, ◌∙◌, inl, inr, arith, add-one, length-take, length-append}
 use Rattle.std.specs.List.{filter_map, cons_option}
 use Rattle.std.specs.Global.{Vec, Global}
 use Rattle.std.specs.Prelude.{String}
 use Rattle.std.proofs.lemmas.Bool.{cases_lt, lt-ltb}
 use Rattle.std.proofs.lemmas.Bool.Decides.{nat_tests}
-use Rattle.std.proofs.lemmas.List.{take_all, drop_all, drop_more, get_or-map, length-map}
+use Rattle.std.proofs.lemmas.List.{take_all, drop_all, drop_more, get_or-map, length-map, length-replicate, append_assoc, append-nil}
 use Rattle.std.proofs.lemmas.List.FromFn.{length-map-range_with_len}
 use Rattle.pg_bytes.specs.Rules.{first}
 use Rattle.pg_bytes.proofs.RuleFacts.{kept-append, NoneBroken-from}
@@ -26,7 +26,7 @@ use Rattle.cs_sign.specs.declared.early.Stop.{Stop}
 use Rattle.cs_sign.specs.declared.early.Stop.TheVariants as stop
 use Rattle.cs_sign.specs.Early.{most}
 use Rattle.cs_sign.specs.Words.{Text}
-use Rattle.cs_sign.specs.Reading.{limited, read_of, hash_in, hashes_in, matched_hashes, sealed_hashes, cached, after_reads, ReadsWithin, Answers, items_of, IsCaused}
+use Rattle.cs_sign.specs.Reading.{Found, limited, read_of, hash_in, hashes_in, matched_hashes, sealed_hashes, cached, finds, after_reads, ReadsWithin, Answers, GoesAs, ReadsSome, CachedSome, items_of, IsCaused}
 
 -- ---- one file
 
@@ -73,19 +73,38 @@ reads-behind told many i more now few known = record {
   after = known.after ∙ ap (λ (t : Told). Some t) (after-both known.reads i told);
 }
 
+-- ---- whatever the files tell
+
+-- a call answers as the run goes, and so it goes
+pub goes-as : {T X : Type 0} (Goes : Result X Early → Type 0) (value : T → X) (goes : Result X Early) (result : Result T Stop) → Answers value goes result → Goes goes → GoesAs Goes value result
+goes-as Goes value goes (Ok found) is known = subst Goes is known
+goes-as Goes value goes (Err (stop.Early early)) is known = subst Goes is known
+goes-as Goes value goes (Err stop.NoMemory) is known = tt
+
+pub some-read : (item : ℕ) (bytes : List ℕ) (result : Result (Vec ℕ) Stop) → Answers items_of (limited bytes) result → GoesAs (ReadsSome item) items_of result
+some-read item bytes result answers =
+    goes-as (ReadsSome item) items_of (limited bytes) result answers (record { found = Some bytes; is = refl })
+
+pub some-failed : (item : ℕ) → ReadsSome item (Err (Unread item))
+some-failed item = record { found = None; is = refl }
+
 -- ---- several files
 
-pub cached-next : (hash : Hash) (told : Told) (item : ℕ) (path : Text) (paths : List Text) (found more : List (List ℕ)) (bytes : List ℕ) → read_of item (next_read told path) ≡ Ok bytes → sealed_hashes hash item bytes ≡ Ok more → cached hash told item (path ∷ paths) found ≡ cached hash (after_read told) (item + 1) paths (found ++ more)
-cached-next hash told item path paths found more bytes read sealed = rw (read, sealed) refl
+-- the cdhashes of the files of several paths, where this is told
+abbrev pub cached_told : Hash → Told → ℕ → List Text → List (List ℕ) → Result (List (List ℕ)) Early
+cached_told hash told item paths hashes = cached hash item (finds told paths) hashes
+
+pub cached-next : (hash : Hash) (item : ℕ) (found : Found) (others : List Found) (hashes more : List (List ℕ)) (bytes : List ℕ) → read_of item found ≡ Ok bytes → sealed_hashes hash item bytes ≡ Ok more → cached hash item (found ∷ others) hashes ≡ cached hash (item + 1) others (hashes ++ more)
+cached-next hash item found others hashes more bytes read sealed = rw (read, sealed) refl
 
 -- a file that does not pass ends the run
-pub cached-unread : (hash : Hash) (told : Told) (item : ℕ) (path : Text) (paths : List Text) (found : List (List ℕ)) (whole : Result (List (List ℕ)) Early) (s : Stop) → Answers {T = Vec ℕ} items_of (read_of item (next_read told path)) (Err s) → cached hash told item (path ∷ paths) found ≡ whole → Answers {T = Vec (List ℕ)} items_of whole (Err s)
-cached-unread hash told item path paths found whole (stop.Early early) stops so_far = sym so_far ∙ rw stops refl
-cached-unread hash told item path paths found whole stop.NoMemory stops so_far = tt
+pub cached-unread : (hash : Hash) (item : ℕ) (found : Found) (others : List Found) (hashes : List (List ℕ)) (whole : Result (List (List ℕ)) Early) (s : Stop) → Answers {T = Vec ℕ} items_of (read_of item found) (Err s) → cached hash item (found ∷ others) hashes ≡ whole → Answers {T = Vec (List ℕ)} items_of whole (Err s)
+cached-unread hash item found others hashes whole (stop.Early early) stops so_far = sym so_far ∙ rw stops refl
+cached-unread hash item found others hashes whole stop.NoMemory stops so_far = tt
 
-pub cached-unsealed : (hash : Hash) (told : Told) (item : ℕ) (path : Text) (paths : List Text) (found : List (List ℕ)) (whole : Result (List (List ℕ)) Early) (bytes : List ℕ) (s : Stop) → read_of item (next_read told path) ≡ Ok bytes → Answers {T = Vec (List ℕ)} items_of (sealed_hashes hash item bytes) (Err s) → cached hash told item (path ∷ paths) found ≡ whole → Answers {T = Vec (List ℕ)} items_of whole (Err s)
-cached-unsealed hash told item path paths found whole bytes (stop.Early early) read stops so_far = sym so_far ∙ rw (read, stops) refl
-cached-unsealed hash told item path paths found whole bytes stop.NoMemory read stops so_far = tt
+pub cached-unsealed : (hash : Hash) (item : ℕ) (found : Found) (others : List Found) (hashes : List (List ℕ)) (whole : Result (List (List ℕ)) Early) (bytes : List ℕ) (s : Stop) → read_of item found ≡ Ok bytes → Answers {T = Vec (List ℕ)} items_of (sealed_hashes hash item bytes) (Err s) → cached hash item (found ∷ others) hashes ≡ whole → Answers {T = Vec (List ℕ)} items_of whole (Err s)
+cached-unsealed hash item found others hashes whole bytes (stop.Early early) read stops so_far = sym so_far ∙ rw (read, stops) refl
+cached-unsealed hash item found others hashes whole bytes stop.NoMemory read stops so_far = tt
 
 -- the paths from one on
 pub paths-split : (paths : List (String Global)) (i : ℕ) (path : String Global) → i < length paths → path ≡ get_or paths i path → drop i (map string_bytes paths) ≡ string_bytes path ∷ drop (i + 1) (map string_bytes paths)
@@ -142,28 +161,75 @@ module _ (hash : Hash) (told : Told) (i : ℕ) (paths : List (String Global)) (p
   split : drop i (map string_bytes paths) ≡ text ∷ drop (i + 1) (map string_bytes paths)
   split = paths-split paths i path lt is ∙ ap (λ (word : Text). word ∷ drop (i + 1) (map string_bytes paths)) (sym named)
 
-  pub cached-step : (found more new : List (List ℕ)) (bytes given : List ℕ) (whole : Result (List (List ℕ)) Early) → read_of i (next_read (after_reads i told) text) ≡ Ok bytes → given ≡ bytes → sealed_hashes hash i given ≡ Ok more → new ≡ found ++ more → cached hash (after_reads i told) i (drop i (map string_bytes paths)) found ≡ whole → cached hash (after_reads (i + 1) told) (i + 1) (drop (i + 1) (map string_bytes paths)) new ≡ whole
+  pub cached-step : (found more new : List (List ℕ)) (bytes given : List ℕ) (whole : Result (List (List ℕ)) Early) → read_of i (next_read (after_reads i told) text) ≡ Ok bytes → given ≡ bytes → sealed_hashes hash i given ≡ Ok more → new ≡ found ++ more → cached_told hash (after_reads i told) i (drop i (map string_bytes paths)) found ≡ whole → cached_told hash (after_reads (i + 1) told) (i + 1) (drop (i + 1) (map string_bytes paths)) new ≡ whole
   cached-step found more new bytes given whole read same sealed grown so_far =
       let before = rw split at so_far in
       let hashes = rw same at sealed in
-      let next = cached-next hash (after_reads i told) i text (drop (i + 1) (map string_bytes paths)) found more bytes read hashes in
+      let next = cached-next hash i (next_read (after_reads i told) text) (finds (after_read (after_reads i told)) (drop (i + 1) (map string_bytes paths))) found more bytes read hashes in
       rw (grown, add-one i) (rw (add-one i) at (sym next ∙ before))
 
-  pub cached-stops-unread : (found : List (List ℕ)) (whole : Result (List (List ℕ)) Early) (s : Stop) → Answers {T = Vec ℕ} items_of (read_of i (next_read (after_reads i told) text)) (Err s) → cached hash (after_reads i told) i (drop i (map string_bytes paths)) found ≡ whole → Answers {T = Vec (List ℕ)} items_of whole (Err s)
+  pub cached-stops-unread : (found : List (List ℕ)) (whole : Result (List (List ℕ)) Early) (s : Stop) → Answers {T = Vec ℕ} items_of (read_of i (next_read (after_reads i told) text)) (Err s) → cached_told hash (after_reads i told) i (drop i (map string_bytes paths)) found ≡ whole → Answers {T = Vec (List ℕ)} items_of whole (Err s)
   cached-stops-unread found whole s stops so_far =
-      cached-unread hash (after_reads i told) i text (drop (i + 1) (map string_bytes paths)) found whole s stops (rw split at so_far)
+      cached-unread hash i (next_read (after_reads i told) text) (finds (after_read (after_reads i told)) (drop (i + 1) (map string_bytes paths))) found whole s stops (rw split at so_far)
 
-  pub cached-stops-unsealed : (found : List (List ℕ)) (bytes given : List ℕ) (whole : Result (List (List ℕ)) Early) (s : Stop) → read_of i (next_read (after_reads i told) text) ≡ Ok bytes → given ≡ bytes → Answers {T = Vec (List ℕ)} items_of (sealed_hashes hash i given) (Err s) → cached hash (after_reads i told) i (drop i (map string_bytes paths)) found ≡ whole → Answers {T = Vec (List ℕ)} items_of whole (Err s)
+  pub cached-stops-unsealed : (found : List (List ℕ)) (bytes given : List ℕ) (whole : Result (List (List ℕ)) Early) (s : Stop) → read_of i (next_read (after_reads i told) text) ≡ Ok bytes → given ≡ bytes → Answers {T = Vec (List ℕ)} items_of (sealed_hashes hash i given) (Err s) → cached_told hash (after_reads i told) i (drop i (map string_bytes paths)) found ≡ whole → Answers {T = Vec (List ℕ)} items_of whole (Err s)
   cached-stops-unsealed found bytes given whole s read same stops so_far =
       let P : List ℕ → Type 0 = λ held. Answers {T = Vec (List ℕ)} items_of (sealed_hashes hash i held) (Err s) in
-      cached-unsealed hash (after_reads i told) i text (drop (i + 1) (map string_bytes paths)) found whole bytes s read (subst P same stops) (rw split at so_far)
+      cached-unsealed hash i (next_read (after_reads i told) text) (finds (after_read (after_reads i told)) (drop (i + 1) (map string_bytes paths))) found whole bytes s read (subst P same stops) (rw split at so_far)
 
 -- no path is left
-pub cached-done : (hash : Hash) (told : Told) (i : ℕ) (paths : List (String Global)) (found : List (List ℕ)) (whole : Result (List (List ℕ)) Early) → length paths ≤ i → cached hash (after_reads i told) i (drop i (map string_bytes paths)) found ≡ whole → whole ≡ Ok found
+pub cached-done : (hash : Hash) (told : Told) (i : ℕ) (paths : List (String Global)) (found : List (List ℕ)) (whole : Result (List (List ℕ)) Early) → length paths ≤ i → cached_told hash (after_reads i told) i (drop i (map string_bytes paths)) found ≡ whole → whole ≡ Ok found
 cached-done hash told i paths found whole past so_far =
     let none = drop_all i (map string_bytes paths) (omega (arith, past, length-map paths (string_bytes {Z = Global}))) in
     let last = rw none at so_far in
     sym last
+
+-- ---- the same over some bytes of the files
+
+-- So many files gave these cdhashes, for something that was found of each.
+pub record Taken (hash : Hash) (many : ℕ) (hashes : List (List ℕ)) : Type 0 where
+  pub found : List Found
+  pub each : length found ≡ many
+  pub is : (others : List Found) → cached hash 0 (found ++ others) [] ≡ cached hash many others hashes
+
+pub taken-none : (hash : Hash) (hashes : List (List ℕ)) → hashes ≡ [] → Taken hash 0 hashes
+taken-none hash hashes none = record { found = []; each = refl; is = λ others. rw none refl }
+
+pub taken-more : (hash : Hash) (i : ℕ) (hashes more new : List (List ℕ)) (bytes given : List ℕ) → Taken hash i hashes → ReadsSome i (Ok bytes) → given ≡ bytes → sealed_hashes hash i given ≡ Ok more → new ≡ hashes ++ more → Taken hash (i + 1) new
+taken-more hash i hashes more new bytes given known read same sealed grown = record {
+  found = known.found ++ read.found ∷ [];
+  each = omega (arith, length-append known.found (read.found ∷ []), known.each);
+  is = λ others.
+      ap (λ (all : List Found). cached hash 0 all []) (append_assoc known.found (read.found ∷ []) others)
+      ∙ known.is (read.found ∷ others)
+      ∙ cached-next hash i read.found others hashes more bytes (sym read.is) (rw same at sealed)
+      ∙ rw grown refl;
+}
+
+-- a file that does not pass ends the run, whatever is found of those behind it
+stopped : (hash : Hash) (i many : ℕ) (hashes : List (List ℕ)) (found : Found) (early : Early) → i < many → Taken hash i hashes → cached hash i (found ∷ replicate (many - (i + 1)) None) hashes ≡ Err early → CachedSome hash many (Err early)
+stopped hash i many hashes found early lt known is = record {
+  found = known.found ++ found ∷ replicate (many - (i + 1)) None;
+  each = omega (arith, length-append known.found (found ∷ replicate (many - (i + 1)) None), known.each, length-replicate {A = Found} (many - (i + 1)) None);
+  is = sym (known.is (found ∷ replicate (many - (i + 1)) None) ∙ is);
+}
+
+pub some-unread : (hash : Hash) (i many : ℕ) (hashes : List (List ℕ)) (s : Stop) → i < many → Taken hash i hashes → GoesAs {T = Vec ℕ} (ReadsSome i) items_of (Err s) → GoesAs {T = Vec (List ℕ)} (CachedSome hash many) items_of (Err s)
+some-unread hash i many hashes (stop.Early early) lt known read =
+    stopped hash i many hashes read.found early lt known (rw (← read.is) refl)
+some-unread hash i many hashes stop.NoMemory lt known read = tt
+
+pub some-unsealed : (hash : Hash) (i many : ℕ) (hashes : List (List ℕ)) (bytes given : List ℕ) (s : Stop) → i < many → Taken hash i hashes → ReadsSome i (Ok bytes) → given ≡ bytes → Answers {T = Vec (List ℕ)} items_of (sealed_hashes hash i given) (Err s) → GoesAs {T = Vec (List ℕ)} (CachedSome hash many) items_of (Err s)
+some-unsealed hash i many hashes bytes given (stop.Early early) lt known read same stops =
+    stopped hash i many hashes read.found early lt known (rw (← read.is, rw same at stops) refl)
+some-unsealed hash i many hashes bytes given stop.NoMemory lt known read same stops = tt
+
+pub some-done : (hash : Hash) (i many : ℕ) (hashes : List (List ℕ)) → i ≡ many → Taken hash i hashes → CachedSome hash many (Ok hashes)
+some-done hash i many hashes same known = record {
+  found = known.found;
+  each = known.each ∙ same;
+  is = sym (ap (λ (all : List Found). cached hash 0 all []) (sym (append-nil known.found)) ∙ known.is []);
+}
 
 -- ---- causes
 

@@ -3,7 +3,7 @@ use Rattle.std.proofs.Common.{◌≡◌, ℕ, ◌+◌, ◌-◌, ◌≤◌, Bool,
 use Rattle.std.specs.Prelude.{is_none, unwrap_or}
 use Rattle.std.proofs.lemmas.List.Quantifiers.{position-Some}
 use Rattle.std.proofs.lemmas.Bool.Decides.{nat_tests}
-use Rattle.std.proofs.lemmas.List.{take_all, length-take-le, length-append, append_assoc}
+use Rattle.std.proofs.lemmas.List.{take_all, length-take, length-take-le, length-replicate, length-append, append_assoc}
 use Rattle.std.proofs.lemmas.List.Elements.{All-get_or}
 use Rattle.pg_bytes.specs.Rules.{first}
 use Rattle.pg_bytes.specs.Ranges.{bytes_in}
@@ -188,3 +188,17 @@ signed-joined hash sizes bytes request asked image plan size count made held joi
     let short : length held ≤ size = omega (arith, size_is, ap length held_is, length-signature hash sizes asked plan made made_long) in
     let up = filled_up made held plan.limit size made_long short in
     final_is ∙ rw (count_is, joined_is) (up ∙ rw (held_is, made_is, size_is, asked_is, plan_is, is) refl)
+
+-- and it is no longer than it may be
+pub signed-within : (request : Request) (limit size count : ℕ) (joined final : List ℕ) → IsSized request limit → size ≡ data_size request limit → count ≡ length joined → final ≡ take (limit + size) joined ++ replicate ((limit + size) - count) 0 → length final ≤ 67108864
+signed-within request limit size count joined final sized size_is count_is final_is =
+    omega (
+      arith,
+      sized.within,
+      size_is,
+      count_is,
+      ap length final_is,
+      length-append (take (limit + size) joined) (replicate ((limit + size) - count) 0),
+      length-take (limit + size) joined,
+      length-replicate {A = ℕ} ((limit + size) - count) 0,
+    )

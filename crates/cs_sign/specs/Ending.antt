@@ -1,5 +1,5 @@
 -- How a run goes and how it ends: its status, and the text that it writes.
-use Rattle.std.specs.Prelude.{◌≡◌, ◌≢◌, ℕ, Bool, true, false, List, [], length, replicate, Option, Some, None, Result, Ok, Err}
+use Rattle.std.specs.Prelude.{◌≡◌, ◌≢◌, ℕ, Bool, true, false, List, [], length, replicate, Option, Some, None, is_some, option_map, Result, Ok, Err}
 use Rattle.std.specs.Io.KnownBytes.{append_known}
 use Rattle.pg_bytes.specs.Counts.{Rose}
 use Rattle.pg_bytes.specs.declared.status.Status.{Status}
@@ -15,7 +15,7 @@ use Rattle.cs_sign.specs.declared.early.Stop.TheVariants as stop
 use Rattle.cs_sign.specs.declared.refusal.SignRefusal.{SignRefusal}
 use Rattle.cs_sign.specs.Caches.{listed, trust_cache}
 use Rattle.cs_sign.specs.Early.{most, status_of, early_line}
-use Rattle.cs_sign.specs.Reading.{and_then, read_of, cached, IsCaused}
+use Rattle.cs_sign.specs.Reading.{Found, and_then, read_of, cached, finds, IsCaused}
 use Rattle.cs_sign.specs.Requests.{Request, page_of}
 use Rattle.cs_sign.specs.Rules.{broken}
 use Rattle.cs_sign.specs.Signed.{signed}
@@ -41,15 +41,19 @@ judged hash bytes request (Some refusal) = Err (Refused refusal)
 unfoldable pub signed_with : Hash → List ℕ → SignWords → Option (List ℕ) → Result (List ℕ) Early
 signed_with hash bytes words given = judged hash bytes (request_of words given) (broken bytes (request_of words given))
 
--- with the file of the entitlements, where the words name one; what is told is that behind the read of the first file
-abbrev pub entitled : Hash → Told → SignWords → List ℕ → Option Text → Result (List ℕ) Early
-entitled hash told words bytes None = signed_with hash bytes words None
-entitled hash told words bytes (Some path) =
-    and_then (read_of 1 (next_read told path)) (λ given. signed_with hash bytes words (Some given))
+-- with the entitlements, by what was found of their file, where the words name one
+abbrev pub entitled : Hash → SignWords → List ℕ → Option Found → Result (List ℕ) Early
+entitled hash words bytes None = signed_with hash bytes words None
+entitled hash words bytes (Some found) =
+    and_then (read_of 1 found) (λ given. signed_with hash bytes words (Some given))
 
-abbrev pub sign_run : Hash → Told → SignWords → Result (List ℕ) Early
-sign_run hash told words =
-    and_then (read_of 0 (next_read told words.path)) (λ bytes. entitled hash (after_read told) words bytes words.entitlements)
+-- by what was found of the file and of that of the entitlements
+abbrev pub sign_run : Hash → SignWords → Found → Option Found → Result (List ℕ) Early
+sign_run hash words found given = and_then (read_of 0 found) (λ bytes. entitled hash words bytes given)
+
+-- what is found of the file of the entitlements, where this is told
+abbrev pub given_told : Told → SignWords → Option Found
+given_told told words = option_map (next_read (after_read told)) words.entitlements
 
 -- ---- the run of `cache`
 
@@ -57,20 +61,46 @@ sign_run hash told words =
 abbrev pub cache_of : List (List ℕ) → List ℕ
 cache_of hashes = trust_cache 1 (replicate 16 0) (listed hashes)
 
-abbrev pub cache_run : Hash → Told → List Text → Result (List ℕ) Early
-cache_run hash told paths = and_then (cached hash told 0 paths []) (λ found. Ok (cache_of found))
+-- by what was found of each file
+abbrev pub cache_run : Hash → List Found → Result (List ℕ) Early
+cache_run hash found = and_then (cached hash 0 found []) (λ hashes. Ok (cache_of hashes))
 
 -- ---- the run of any words
 
 abbrev pub run_by : Hash → Told → Option SignWords → Option (List Text) → Result (List ℕ) Early
-run_by hash told (Some words) paths = sign_run hash told words
-run_by hash told None (Some paths) = cache_run hash told paths
+run_by hash told (Some words) paths = sign_run hash words (next_read told words.path) (given_told told words)
+run_by hash told None (Some paths) = cache_run hash (finds told paths)
 run_by hash told None None = Err Usage
 
 abbrev pub run_of : Hash → List Text → Told → Result (List ℕ) Early
 run_of hash words told = run_by hash told (sign_words words) (cache_paths words)
 
--- how many files it reads at most
+-- ---- the run over some bytes of the files, whatever they tell
+
+-- The file that is signed, and that of the entitlements where the words name one, could not be read or have some bytes.
+pub record SignsSome (hash : Hash) (words : SignWords) (goes : Result (List ℕ) Early) : Type 0 where
+  pub found : Found
+  pub given : Option Found
+  pub named : is_some given ≡ is_some words.entitlements
+  pub is : goes ≡ sign_run hash words found given
+
+-- The same of each file of which a trust cache is built.
+pub record CachesSome (hash : Hash) (many : ℕ) (goes : Result (List ℕ) Early) : Type 0 where
+  pub found : List Found
+  pub each : length found ≡ many
+  pub is : goes ≡ cache_run hash found
+
+abbrev pub RunsBySome : Hash → Option SignWords → Option (List Text) → Result (List ℕ) Early → Type 0
+RunsBySome hash (Some words) paths goes = SignsSome hash words goes
+RunsBySome hash None (Some paths) goes = CachesSome hash (length paths) goes
+RunsBySome hash None None goes = goes ≡ Err Usage
+
+abbrev pub RunsSome : Hash → List Text → Result (List ℕ) Early → Type 0
+RunsSome hash words goes = RunsBySome hash (sign_words words) (cache_paths words) goes
+
+-- ---- reads
+
+-- how many files a run reads at most
 abbrev pub reads_by : Option SignWords → Option (List Text) → ℕ
 reads_by (Some words) paths = 2
 reads_by None (Some paths) = length paths
@@ -99,6 +129,18 @@ abbrev pub Ends : Ending → Status → Option (List ℕ) → Option (List ℕ) 
 Ends ending status.NoMemory before now = now ≡ before
 Ends ending status.SinkFault before now = SentPart before now ending.text
 Ends ending other before now = (other ≡ ending.status) × (now ≡ append_known before ending.text)
+
+-- The run goes so over some bytes of the files that the words name.
+pub record IsEndingOfSome (hash : Hash) (words : List Text) (ending : Ending) : Type 0 where
+  pub goes : Result (List ℕ) Early
+  pub runs : RunsSome hash words goes
+  pub is : ending ≡ end_of goes
+
+-- The run has the status and the text of one over some bytes of these files.
+pub record EndsSome (hash : Hash) (words : List Text) (ended : Status) (before now : Option (List ℕ)) : Type 0 where
+  pub ending : Ending
+  pub of_some : IsEndingOfSome hash words ending
+  pub ends : Ends ending ended before now
 
 -- Words that have none of the forms end the run by the usage line, and no others do. A fault of the sink or want of memory
 -- may come in its place.

@@ -15,3 +15,4 @@ pub mod Reading
 pub mod Ending
 pub mod EndingView
 pub mod Verified
+pub mod Listing

@@ -25,8 +25,12 @@ and_then (Err early) next = Err early
 abbrev pub limited : List ℕ → Result (List ℕ) Early
 limited bytes = if nat_lt most (length bytes) then Err TooLarge else Ok bytes
 
+-- what is found of a file: its bytes, or none where it could not be read
+abbrev pub Found : Type 0
+Found = Option (List ℕ)
+
 -- the bytes of the file of an item, by what was found of it
-abbrev pub read_of : ℕ → Option (List ℕ) → Result (List ℕ) Early
+abbrev pub read_of : ℕ → Found → Result (List ℕ) Early
 read_of item None = Err (Unread item)
 read_of item (Some bytes) = limited bytes
 
@@ -47,12 +51,17 @@ unfoldable pub sealed_hashes : Hash → ℕ → List ℕ → Result (List (List 
 sealed_hashes hash item bytes =
     if is_none (fat.broken bytes) then matched_hashes item (report hash bytes) else Err (NotSealed item)
 
--- those of the files of several paths, behind others that were found, where the first path is that of an item
-abbrev pub cached : Hash → Told → ℕ → List Text → List (List ℕ) → Result (List (List ℕ)) Early
-cached hash told item [] found = Ok found
-cached hash told item (path ∷ paths) found =
-    and_then (read_of item (next_read told path)) (λ bytes.
-    and_then (sealed_hashes hash item bytes) (λ more. cached hash (after_read told) (item + 1) paths (found ++ more)))
+-- those of several files, by what was found of each, behind other cdhashes; the first file is that of an item
+abbrev pub cached : Hash → ℕ → List Found → List (List ℕ) → Result (List (List ℕ)) Early
+cached hash item [] hashes = Ok hashes
+cached hash item (found ∷ others) hashes =
+    and_then (read_of item found) (λ bytes.
+    and_then (sealed_hashes hash item bytes) (λ more. cached hash (item + 1) others (hashes ++ more)))
+
+-- what is found of the files of several paths, where this is told
+abbrev pub finds : Told → List Text → List Found
+finds told [] = []
+finds told (path ∷ paths) = next_read told path ∷ finds (after_read told) paths
 
 -- ---- what is told after reads, and how they fail
 
@@ -75,6 +84,27 @@ abbrev pub Answers : {T X : Type 0} → (T → X) → Result X Early → Result 
 Answers value goes (Ok found) = goes ≡ Ok (value found)
 Answers value goes (Err (stop.Early early)) = goes ≡ Err early
 Answers value goes (Err stop.NoMemory) = Unit {0}
+
+-- ---- whatever the files tell
+
+-- what a call answers is such a way to go; want of memory is tied to nothing
+abbrev pub GoesAs : {T X : Type 0} → (Result X Early → Type 0) → (T → X) → Result T Stop → Type 0
+GoesAs Goes value (Ok found) = Goes (Ok (value found))
+GoesAs Goes value (Err (stop.Early early)) = Goes (Err early)
+GoesAs Goes value (Err stop.NoMemory) = Unit {0}
+
+-- The file of an item could not be read, or has some bytes.
+pub record ReadsSome (item : ℕ) (goes : Result (List ℕ) Early) : Type 0 where
+  pub found : Found
+  pub is : goes ≡ read_of item found
+
+-- The same of so many files, whose cdhashes are taken.
+pub record CachedSome (hash : Hash) (many : ℕ) (goes : Result (List (List ℕ)) Early) : Type 0 where
+  pub found : List Found
+  pub each : length found ≡ many
+  pub is : goes ≡ cached hash 0 found []
+
+-- ---- causes
 
 -- a file that could not be read has raised the count of faults, and nothing else does; the words end no run over files
 abbrev pub IsCaused : {T : Type 0} → Result T Stop → ℕ → ℕ → Type 0

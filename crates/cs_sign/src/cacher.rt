@@ -2,7 +2,7 @@
 
 ghost use Rattle.std.specs.Prelude.{◌≡◌, ◌++◌, ◌≤◌, length, OnOk, IfOk, IfErr};
 ghost use Rattle.std.specs.BTreeSet.{btree_set_len};
-ghost use Rattle.cs_sign.specs.Caches.{listed, entry_bytes, trust_cache, cache_rules, IsCache, IsCause};
+ghost use Rattle.cs_sign.specs.Caches.{listed, entry_bytes, trust_cache, cache_rules, IsCache, IsTaken, IsCause};
 
 use crate::refusal::CacheFail;
 use std::alloc::{AllocError, Global};
@@ -44,7 +44,8 @@ fn written(
     version: u32,
 ) -> Result<Vec<u8>, AllocError>
     requires { length set.now.keys ≤ 65536 }
-    ensures { IfOk result (λ made. made.items ≡ trust_cache version uuid.now set.now.keys) }
+    ensures made { IfOk result (λ made. made.items ≡ trust_cache version uuid.now set.now.keys) }
+    ensures number { OnOk result (length uuid.now ≡ 16) }
 {
     let count = set.len() as u32;
     let mut out = Vec::with_capacity(alloc, 24 + 24 * count as usize)?;
@@ -58,8 +59,9 @@ fn written(
 }
 
 /// A trust cache of these cdhashes, sorted and each once, with the hash type SHA-256 and zeros for the rest of each entry.
-/// The error is Version where the version is neither 1 nor 2, and else TooMany where more than 65,536 different cdhashes
-/// are given; want of memory may come in place of the latter.
+/// A reader of trust caches takes it, and a search in it finds these cdhashes and no others. The error is Version where
+/// the version is neither 1 nor 2, and else TooMany where more than 65,536 different cdhashes are given; want of memory may
+/// come in place of either.
 pub fn cache(
     alloc: Global,
     hashes: &[[u8; 20]],
@@ -67,6 +69,7 @@ pub fn cache(
     version: u32,
 ) -> Result<Vec<u8>, CacheFail>
     ensures made { IfOk result (λ made. IsCache hashes.now uuid version made.items) }
+    ensures taken { IfOk result (λ made. IsTaken hashes.now version made.items) }
     ensures refused { IfErr result (IsCause hashes.now version) }
 {
     if version != 1 && version != 2 {

@@ -2,13 +2,13 @@
 
 ghost use Rattle.std.specs.Prelude.{◌≡◌, ◌≤◌, ℕ, false, length, map, Some, None, IfOk, OnErr, IsErrOf, option_map, string_bytes};
 ghost use Rattle.pg_digest.specs.Digests.{sha_hash};
-ghost use Rattle.pg_io.specs.Files.{Told};
+ghost use Rattle.pg_io.specs.Files.{Told, next_read};
 ghost use Rattle.cs_sign.specs.Words.{is_form};
 ghost use Rattle.cs_sign.specs.WordsView.{words_in};
 ghost use Rattle.cs_sign.specs.Early.{is_unread, early_line};
 ghost use Rattle.cs_sign.specs.EndingView.{text_in};
-ghost use Rattle.cs_sign.specs.Reading.{Answers, ReadsWithin, IsCaused, items_of};
-ghost use Rattle.cs_sign.specs.Ending.{signed_with, cache_of, sign_run, cache_run, run_of, early_end, ending_of, most_reads, IsMadeCaused, IsEndCaused};
+ghost use Rattle.cs_sign.specs.Reading.{finds, Answers, GoesAs, ReadsWithin, IsCaused, items_of};
+ghost use Rattle.cs_sign.specs.Ending.{signed_with, cache_of, sign_run, given_told, cache_run, run_of, early_end, ending_of, most_reads, SignsSome, CachesSome, RunsSome, IsEndingOfSome, IsMadeCaused, IsEndCaused};
 
 use crate::cacher::cache;
 use crate::early::{Early, Line, Stop, item_line, status_of};
@@ -50,7 +50,9 @@ fn signed(
 /// The run of `sign`.
 fn sign_run<F: Files>(alloc: Global, files: &mut F, words: &Signing) -> Result<Vec<u8>, Stop>
     ensures told { (told : Told) → F.tells files.old ≡ Some told →
-        Answers items_of (sign_run sha_hash told (words_in words.now)) result }
+        Answers items_of (sign_run sha_hash (words_in words.now)
+        (next_read told words.now.path.now) (given_told told (words_in words.now))) result }
+    ensures some { GoesAs (SignsSome sha_hash (words_in words.now)) items_of result }
     ensures reads { (told : Told) → F.tells files.old ≡ Some told →
         ReadsWithin told 2 (F.tells files.new) }
     ensures cause { IsCaused result (F.faults files.old) (F.faults files.new) }
@@ -81,7 +83,8 @@ fn listed(alloc: Global, hashes: &[[u8; 20]]) -> Result<Vec<u8>, Stop>
 fn cache_run<F: Files>(alloc: Global, files: &mut F, paths: &[String]) -> Result<Vec<u8>, Stop>
     requires { length paths.now ≤ 64 }
     ensures told { (told : Told) → F.tells files.old ≡ Some told →
-        Answers items_of (cache_run sha_hash told (map string_bytes paths.now)) result }
+        Answers items_of (cache_run sha_hash (finds told (map string_bytes paths.now))) result }
+    ensures some { GoesAs (CachesSome sha_hash (length paths.now)) items_of result }
     ensures reads { (told : Told) → F.tells files.old ≡ Some told →
         ReadsWithin told (length paths.now) (F.tells files.new) }
     ensures cause { IsCaused result (F.faults files.old) (F.faults files.new) }
@@ -94,6 +97,7 @@ fn cache_run<F: Files>(alloc: Global, files: &mut F, paths: &[String]) -> Result
 fn made<F: Files>(alloc: Global, words: &[String], files: &mut F) -> Result<Vec<u8>, Stop>
     ensures told { (told : Told) → F.tells files.old ≡ Some told →
         Answers items_of (run_of sha_hash (map string_bytes words.now) told) result }
+    ensures some { GoesAs (RunsSome sha_hash (map string_bytes words.now)) items_of result }
     ensures reads { (told : Told) → F.tells files.old ≡ Some told →
         ReadsWithin told (most_reads (map string_bytes words.now)) (F.tells files.new) }
     ensures cause { IsMadeCaused (is_form (map string_bytes words.now)) result
@@ -193,6 +197,7 @@ pub(crate) fn ended<F: Files>(
 ) -> Result<Ending, AllocError>
     ensures told { (told : Told) → F.tells files.old ≡ Some told → IfOk result (λ e.
         e ≡ ending_of sha_hash (map string_bytes words.now) told) }
+    ensures some { IfOk result (IsEndingOfSome sha_hash (map string_bytes words.now)) }
     ensures reads { (told : Told) → F.tells files.old ≡ Some told →
         ReadsWithin told (most_reads (map string_bytes words.now)) (F.tells files.new) }
     ensures cause { IfOk result (λ e. IsEndCaused (is_form (map string_bytes words.now))

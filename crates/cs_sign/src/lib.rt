@@ -8,6 +8,7 @@ mod code_directory;
 mod early;
 mod ending;
 mod fields;
+mod laws;
 mod plan;
 mod reading;
 mod refusal;
@@ -18,6 +19,7 @@ mod top;
 mod words;
 
 pub use cacher::cache;
+pub use laws::{caches_list_slices, signed_files_are_listed};
 pub use refusal::{CacheFail, SignFail, SignRefusal};
 pub use request::HashPage;
 pub use signer::sign;

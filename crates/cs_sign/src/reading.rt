@@ -3,7 +3,7 @@
 ghost use Rattle.std.specs.Prelude.{◌≡◌, ◌≤◌, ℕ, [], length, map, Some, IfOk, OnOk, string_bytes};
 ghost use Rattle.pg_digest.specs.Digests.{sha_hash};
 ghost use Rattle.pg_io.specs.Files.{Told, next_read};
-ghost use Rattle.cs_sign.specs.Reading.{limited, read_of, hash_in, hashes_in, matched_hashes, sealed_hashes, cached, after_reads, Answers, ReadsWithin, IsCaused, items_of};
+ghost use Rattle.cs_sign.specs.Reading.{limited, read_of, hash_in, hashes_in, matched_hashes, sealed_hashes, cached, finds, after_reads, Answers, GoesAs, ReadsSome, CachedSome, ReadsWithin, IsCaused, items_of};
 
 use crate::early::{Early, MOST, Stop};
 use cs_verify::{SliceReport, VerifyFail, all_match, verify};
@@ -31,6 +31,7 @@ pub(crate) fn read_item<F: Files>(
 ) -> Result<Vec<u8>, Stop>
     ensures told { (told : Told) → F.tells files.old ≡ Some told →
         Answers items_of (read_of item (next_read told path.now)) result }
+    ensures some { GoesAs (ReadsSome item) items_of result }
     ensures read { (told : Told) → F.tells files.old ≡ Some told →
         OnOk result (F.tells files.new ≡ Some (after_reads 1 told)) }
     ensures reads { (told : Told) → F.tells files.old ≡ Some told →
@@ -98,7 +99,8 @@ pub(crate) fn cached<F: Files>(
 ) -> Result<Vec<[u8; 20]>, Stop>
     requires { length paths.now ≤ 64 }
     ensures told { (told : Told) → F.tells files.old ≡ Some told →
-        Answers items_of (cached sha_hash told 0 (map string_bytes paths.now) []) result }
+        Answers items_of (cached sha_hash 0 (finds told (map string_bytes paths.now)) []) result }
+    ensures some { GoesAs (CachedSome sha_hash (length paths.now)) items_of result }
     ensures reads { (told : Told) → F.tells files.old ≡ Some told →
         ReadsWithin told (length paths.now) (F.tells files.new) }
     ensures cause { IsCaused result (F.faults files.old) (F.faults files.new) }

@@ -1,6 +1,7 @@
 //! Signing a file.
 
-ghost use Rattle.std.specs.Prelude.{◌≡◌, length, IfOk, IfErr};
+ghost use Rattle.std.specs.Prelude.{◌≡◌, ◌≤◌, length, IfOk, IfErr};
+ghost use Rattle.cs_sign.specs.Early.{most};
 ghost use Rattle.cs_sign.specs.Fails.{Refuses};
 ghost use Rattle.cs_sign.specs.Rules.{IsSized, broken};
 ghost use Rattle.cs_sign.specs.Requests.{asked, IsModest};
@@ -71,6 +72,7 @@ pub fn sign<D: Digester>(
         (broken bytes.now (asked ident.now entitlements.entry page))) }
     ensures verified { IfOk result (λ made. IsVerified D.hash bytes.now
         (asked ident.now entitlements.entry page) made.items) }
+    ensures within { IfOk result (λ made. length made.items ≤ most) }
 {
     let request = Request::new(ident, entitlements, page);
     let length = bytes.len() as u64;

@@ -8,7 +8,7 @@ ghost use Rattle.pg_io.specs.Files.{Told};
 ghost use Rattle.cs_sign.specs.Early.{most};
 ghost use Rattle.cs_sign.specs.Words.{is_form};
 ghost use Rattle.cs_sign.specs.Reading.{ReadsWithin};
-ghost use Rattle.cs_sign.specs.Ending.{ending_of, most_reads, Ends, EndsByForm, Says};
+ghost use Rattle.cs_sign.specs.Ending.{ending_of, most_reads, Ends, EndsSome, EndsByForm, Says};
 
 use crate::ending::ended;
 use pg_bytes::Status;
@@ -35,6 +35,11 @@ pub fn cssign_main<F: Files, K: Sink>(
     ensures output { (told : Told) → F.tells files.old ≡ Some told →
         Ends (ending_of sha_hash (map string_bytes words.now) told) result
         (K.written out.old) (K.written out.new) }
+
+    // Whatever the files tell, status and output are those of a run over some bytes of the files that the words name. A
+    // fault of the sink may cut the output short.
+    ensures over_some { result ≢ Status.NoMemory → EndsSome sha_hash (map string_bytes words.now)
+        result (K.written out.old) (K.written out.new) }
 
     // Usage comes exactly where the words have none of the forms, whatever the files are; there a fault of the sink or
     // want of memory may come in its place.

@@ -39,3 +39,6 @@ fn main(rt: HostRuntime) -> ExitCode {
     let status = cssign_main(rt.alloc(), arguments(&words), &mut files, &mut out);
     ExitCode::from(code(&status))
 }
+
+#[cfg(test)]
+mod tests;

@@ -2,9 +2,9 @@ ghost use Rattle.std.specs.Prelude.{◌≡◌, ◌≤◌, IfOk, vec_len, None};
 
 use crate::files::{Files, ReadFail};
 use std::alloc::Global;
+use std::fs::OpenFile;
 use std::io::{ErrorKind, Read};
 use std::marker::Model;
-use std::fs::OpenFile;
 use std::{fs, io, rt};
 
 /// The system's files, which tell nothing of their content. A name is a path.

@@ -4,3 +4,4 @@ pub mod OpeningFacts
 pub mod AskFacts
 pub mod StartFacts
 pub mod SoloFacts
+pub mod SmallFacts

@@ -1,15 +1,11 @@
 // Events are entered into a history.
 
 ghost use Rattle.std.specs.Prelude.{◌≡◌, ◌<◌, ◌^◌, ◌++◌, ◌∷◌, [], vec_len, vec_capacity};
-ghost use Rattle.cs_policy.specs.declared.entry.Event.TheVariants as event;
-ghost use Rattle.cs_policy.specs.declared.entry.Reply.TheVariants as reply;
-ghost use Rattle.cs_policy.specs.declared.entry.Place.TheVariants as place;
 ghost use Rattle.pg_book.specs.Closing.{stamped};
 ghost use Rattle.pg_book.specs.Needs.{rows_of, row_entries, all_entries};
 
-use cs_policy::{Entry, Event, Place, ProcEvent, ProcReply, Reply, TrustEvent, TrustReply, Who};
+use cs_policy::Entry;
 use pg_book::{Needs, Receipt, Stamped};
-use pg_parts::FileAnswer;
 
 // Enters an entry that happened on the part of this number, and gives the receipt with an equal entry. The stamp is the
 // place of the entry in the history.
@@ -63,40 +59,4 @@ fn row_entries(row: &[Needs]) -> u64
         entries += needs.entries;
     }
     entries
-}
-
-// The entry of a file.
-pub(crate) fn file_entry(who: Who, file: u32, answer: FileAnswer) -> Entry
-    ensures { result ≡ record { who = who; place = place.File file; event = event.File answer.event; reply = reply.File answer.reply } }
-{
-    Entry {
-        who,
-        place: Place::File(file),
-        event: Event::File(answer.event),
-        reply: Reply::File(answer.reply),
-    }
-}
-
-// The entry of a process.
-pub(crate) fn process_entry(who: Who, pid: u32, asked: ProcEvent, answer: ProcReply) -> Entry
-    ensures { result ≡ record { who = who; place = place.Process pid; event = event.Proc asked; reply = reply.Proc answer } }
-{
-    Entry {
-        who,
-        place: Place::Process(pid),
-        event: Event::Proc(asked),
-        reply: Reply::Proc(answer),
-    }
-}
-
-// The entry of the trust list.
-pub(crate) fn trust_entry(who: Who, asked: TrustEvent, answer: TrustReply) -> Entry
-    ensures { result ≡ record { who = who; place = place.Trust; event = event.Trust asked; reply = reply.Trust answer } }
-{
-    Entry {
-        who,
-        place: Place::Trust,
-        event: Event::Trust(asked),
-        reply: Reply::Trust(answer),
-    }
 }

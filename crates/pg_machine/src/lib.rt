@@ -9,3 +9,6 @@ mod solo;
 
 pub use solo::Solo;
 pub use std::alloc::AllocError as NoMemory;
+
+#[cfg(test)]
+mod tests;

@@ -1,22 +1,22 @@
 //! The machine.
 
 ghost use Rattle.std.specs.Prelude.{◌≡◌, ◌<◌, [], length, IfOk, IfSome};
-ghost use Rattle.pg_history.specs.Machine.{signed_range};
-ghost use Rattle.pg_history.specs.Opening.{seat_in};
 ghost use Rattle.pg_history.specs.Legal.{IsStamped, Agrees};
 ghost use Rattle.pg_parts.specs.Opened.{numbers_in, opening_in, IsOpenable};
 ghost use Rattle.pg_machine.specs.Solo.{shown, WentOn, IsAnswered};
 
 use crate::NoMemory;
-use crate::entering::{enter, entries_of, file_entry, process_entry, trust_entry};
-use cs_policy::{Entry, Layout, ProcEvent, SliceSeat, TrustEvent, Who};
+use crate::entering::{enter, entries_of};
+use cs_policy::{Entry, ProcEvent, TrustEvent, Who};
 use pg_book::{AllNeeds, Receipt, Stamped};
 use pg_bytes::Range;
 use pg_calls::{FileCall, Parts};
 use pg_digest::Digester;
 use pg_io::Pager;
 use pg_object::Object;
-use pg_parts::{Opened, ask_file, ask_process, ask_trust};
+use pg_parts::{
+    Opened, ask_file, ask_process, ask_trust, file_entry, process_entry, signed_range, trust_entry,
+};
 use pg_process::Process;
 use pg_trusted::Trusted;
 use std::alloc::Global;
@@ -122,19 +122,6 @@ impl<P: Pager, D: Digester> Solo<P, D> {
             needs,
         };
         (history, parts)
-    }
-}
-
-// Where a slice lies that is a signed image.
-fn signed_range(layout: &Layout, slice: u32) -> Option<Range>
-    ensures { result ≡ signed_range (seat_in slice layout.now) }
-{
-    let Layout::Slices(seats) = layout else {
-        return None;
-    };
-    match seats.items().get(slice as usize)? {
-        SliceSeat::Signed { slice, .. } => Some(*slice),
-        SliceSeat::Refused(_) => None,
     }
 }
 

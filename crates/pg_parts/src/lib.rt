@@ -6,10 +6,12 @@
 #![tactic(auto)]
 
 mod asking;
+mod entries;
 mod laws;
 mod opened;
 
 pub use asking::{FileAnswer, ask_file, ask_process, ask_trust};
+pub use entries::{file_entry, process_entry, signed_range, trust_entry};
 pub use laws::{shares_are_enough, told_calls_are_steps};
 pub use opened::Opened;
 pub use std::alloc::AllocError as NoMemory;

@@ -10,7 +10,6 @@ ghost use Rattle.pg_shared.specs.Passes.{shown, IsPassOf};
 ghost use Rattle.pg_shared.specs.Cells.{IsFileOf};
 
 use crate::NoMemory;
-use crate::entries::file_entry;
 use crate::naming::Naming;
 use cs_policy::{Entry, Who};
 use pg_book::{Pass, Receipt, Spine};
@@ -18,7 +17,7 @@ use pg_calls::FileCall;
 use pg_digest::Digester;
 use pg_io::Pager;
 use pg_object::Object;
-use pg_parts::ask_file;
+use pg_parts::{ask_file, file_entry};
 use std::alloc::Global;
 use std::marker::{Model, PhantomData};
 

@@ -4,8 +4,6 @@ ghost use Rattle.std.specs.Prelude.{◌≡◌, map, slice_get, IfOk};
 ghost use Rattle.std.specs.Arc.{arc_value};
 ghost use Rattle.std.specs.Option.{option_map};
 ghost use Rattle.cs_policy.specs.ProcFlags.{with_flag, valid};
-ghost use Rattle.pg_history.specs.Machine.{signed_range};
-ghost use Rattle.pg_history.specs.Opening.{seat_in};
 ghost use Rattle.pg_shared.specs.Opening.{known_of, declared_of, pages_known, range_known};
 
 use crate::NoMemory;
@@ -16,6 +14,7 @@ use pg_bytes::Range;
 use pg_digest::Digester;
 use pg_io::Pager;
 use pg_object::Object;
+use pg_parts::signed_range;
 use pg_process::Process;
 use pg_trusted::Trusted;
 use std::alloc::Global;
@@ -108,19 +107,6 @@ fn flags_of_all(alloc: Global, processes: &[Process]) -> Result<Vec<ProcFlags>, 
         flags.push(process.declared())?;
     }
     Ok(flags)
-}
-
-// Where a slice lies that is a signed image.
-fn signed_range(layout: &Layout, slice: u32) -> Option<Range>
-    ensures { result ≡ signed_range (seat_in slice layout.now) }
-{
-    let Layout::Slices(seats) = layout else {
-        return None;
-    };
-    match seats.items().get(slice as usize)? {
-        SliceSeat::Signed { slice, .. } => Some(*slice),
-        SliceSeat::Refused(_) => None,
-    }
 }
 
 impl Known {

@@ -7,7 +7,6 @@
 #![tactic(auto)]
 
 mod closing;
-mod entries;
 mod file_cell;
 mod hand;
 mod known;

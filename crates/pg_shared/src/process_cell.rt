@@ -12,11 +12,10 @@ ghost use Rattle.pg_shared.specs.Plan.{number_at};
 ghost use Rattle.pg_shared.specs.Passes.{shown, IsPassOf};
 ghost use Rattle.pg_shared.specs.Cells.{IsProcessOf};
 
-use crate::entries::process_entry;
 use crate::naming::Naming;
 use cs_policy::{Entry, ProcEvent, Who};
 use pg_book::{Pass, Receipt, Spine};
-use pg_parts::ask_process;
+use pg_parts::{ask_process, process_entry};
 use pg_process::Process;
 use std::marker::{Model, PhantomData};
 

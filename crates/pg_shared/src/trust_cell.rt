@@ -11,11 +11,10 @@ ghost use Rattle.pg_parts.specs.Opened.{numbers_in};
 ghost use Rattle.pg_shared.specs.Passes.{shown, IsPassOf};
 ghost use Rattle.pg_shared.specs.Cells.{IsTrustOf};
 
-use crate::entries::trust_entry;
 use crate::naming::Naming;
 use cs_policy::{Entry, TrustEvent, Who};
 use pg_book::{Pass, Receipt, Spine};
-use pg_parts::ask_trust;
+use pg_parts::{ask_trust, trust_entry};
 use pg_trusted::Trusted;
 use std::marker::{Model, PhantomData};
 

@@ -19,6 +19,6 @@ pub loop-hash-preserved : goal.loop-hash-preserved
 loop-hash-preserved c =
     entry_added (entry_bytes c.args.version) _ _ _ c.in-Some.hash.now _ _ (rest_more deref _ _ _ c.in-Some.hash c.in-Some.is c.next.ensures.steps) c.loop-hash.invariant c.in_ok-put_entry.ensures
 
-pub returns : goal.returns
-returns c =
+pub returns-clause-made : goal.returns-clause-made
+returns-clause-made c =
     entries_done (entry_bytes c.args.version) _ _ _ (rest_all deref _ _ _ c.in-None.is c.next.ensures.steps) c.loop-hash.invariant

@@ -1,5 +1,5 @@
 use Rattle.std.proofs.Common.{refl, arith}
-use Rattle.cs_sign.proofs.ReadingFacts.{read-first, reads-none, reads-one}
+use Rattle.cs_sign.proofs.ReadingFacts.{read-first, some-read, some-failed, reads-none, reads-one}
 use Rattle.cs_sign.proofs.reading.read_item.Goals as goal
 
 pub returns-in-Err-NoMemory-clause-reads : goal.returns-in-Err-NoMemory-clause-reads
@@ -23,3 +23,9 @@ returns-in-Ok-clause-told g c = λ told tells.
 pub returns-in-Ok-clause-reads : goal.returns-in-Ok-clause-reads
 returns-in-Ok-clause-reads g c = λ told tells.
     reads-one told 1 _ (omega arith) (c.in-Ok.ensures.told told tells).1
+
+pub returns-in-Err-Failed-clause-some : goal.returns-in-Err-Failed-clause-some
+returns-in-Err-Failed-clause-some g c = some-failed c.args.item
+
+pub returns-in-Ok-clause-some : goal.returns-in-Ok-clause-some
+returns-in-Ok-clause-some g c = some-read c.args.item c.in-Ok.bytes.items c.limited.result c.limited.ensures.told

@@ -3,7 +3,7 @@ use Rattle.std.proofs.lemmas.Result.{err_from_is_err_and}
 use Rattle.macho_cmds.specs.Layout.{commands_end}
 use Rattle.cs_sign.specs.Requests.{asked}
 use Rattle.cs_sign.specs.Signed.{signature}
-use Rattle.cs_sign.proofs.RoomFacts.{header-whole, broken-by_image, broken-by_own, own-along, image-is, room-along, signed-joined, length-body}
+use Rattle.cs_sign.proofs.RoomFacts.{header-whole, broken-by_image, broken-by_own, own-along, image-is, room-along, signed-joined, signed-within, length-body}
 use Rattle.cs_sign.proofs.VerifiedFacts.{verified-along}
 use Rattle.cs_sign.proofs.signer.sign.Goals as goal
 
@@ -70,3 +70,8 @@ returns-clause-verified g c =
     let own = own-along bytes request c.new-request.result c.in_ok-image.image _ None is ends c.new-request.ensures c.in_ok-plan.ensures.tries in
     let made = returns-clause-signed g c in
     verified-along g.D.Digester.hash g.met.D.Digester.sized bytes request c.new-request.result c.in_ok-image.image c.in_ok-plan.plan _ c.in_ok-image.ensures.accepted.unbroken own is c.in_ok-image.ensures.inside.sig c.in_ok-plan.ensures.plan c.new-request.ensures c.in_ok-plan.ensures.sized made.value
+
+pub returns-clause-within : goal.returns-clause-within
+returns-clause-within g c =
+    let long : c.extend_from_slice.new.self.len ≡ length c.extend_from_slice.new.self.items = omega (arith, c.extend_from_slice.new.self.ok.0) in
+    signed-within c.new-request.result c.in_ok-plan.plan.limit c.data_size-size.result _ _ _ c.in_ok-plan.ensures.sized c.data_size-size.ensures.size long c.in_ok-resize.ensures.items

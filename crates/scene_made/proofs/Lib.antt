@@ -1,0 +1,3 @@
+pub mod GrownFacts
+pub mod FitFacts
+pub mod LimitFacts
