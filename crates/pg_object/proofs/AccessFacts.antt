@@ -3,6 +3,7 @@ use Rattle.std.proofs.Common.{◌≡◌, ◌≢◌, ℕ, ◌+◌, ◌<◌, ◌�
 use Rattle.std.specs.Prelude.{◌⊎◌, ◌==◌, ◌&&◌, All, IsSome, IsSomeAnd, is_some, unwrap_or, slice_index_or, option_map, if◌then◌else◌}
 use Rattle.std.specs.Option.{option_map_or, option_copied}
 use Rattle.std.specs.Borrow.{Bor}
+use Rattle.std.proofs.lemmas.Bool.{false≢true}
 use Rattle.std.proofs.lemmas.Grind.{common_steps}
 use Rattle.std.proofs.lemmas.Option.{get_or_from_slice_get}
 use Rattle.pg_digest.specs.Kinds.{Hash}
@@ -22,7 +23,7 @@ use Rattle.pg_cache.proofs.Laws.{some_pages, some_finds, put_finds}
 use Rattle.pg_regions.specs.Lookups.{Copy, IsWriter, is_shared, record_of, copy_of, bytes_of}
 use Rattle.pg_regions.specs.RegionsNow.{RegionsNow, Room, spare, IsSound}
 use Rattle.pg_regions.specs.Steps.{ChangesCopy, with_bytes, copy_with_piece, rewritten}
-use Rattle.pg_pages.specs.Marks.{Marks}
+use Rattle.pg_pages.specs.Marks.{Marks, marks_of}
 use Rattle.pg_pages.specs.Pages.{PagesNow, IsMarked}
 use Rattle.pg_pages.proofs.MarkFacts.{resident_inside}
 use Rattle.pg_pages.proofs.MarkLaws.{ChangesAt, changed_here, changed_other}
@@ -32,10 +33,12 @@ use Rattle.pg_plain.specs.Keep.{Keep}
 use Rattle.pg_plain.proofs.FewerFacts.{writes_has}
 use Rattle.pg_object.specs.Object.{ObjectNow, seen}
 use Rattle.pg_object.specs.Kept.{IsInside, IsKept}
-use Rattle.pg_object.specs.Acts.{LeavesRoom, Acts}
-use Rattle.pg_object.specs.Checked.{takes_out}
+use Rattle.pg_object.specs.Acts.{LeavesRoom, nothing_back, Acts}
+use Rattle.pg_object.specs.Checked.{takes_out, LeavesChecked}
+use Rattle.pg_object.proofs.PagerCallFacts.{no_reads}
+use Rattle.pg_object.proofs.RoomFacts.{gains_same, gains_spare}
 use Rattle.pg_object.proofs.KeepFacts.{resident_is}
-use Rattle.pg_object.proofs.CheckedFacts.{checked_quietly}
+use Rattle.pg_object.proofs.CheckedFacts.{checked_quietly, checked_validated}
 use Rattle.pg_object.proofs.QuietFacts.{Does, Quiet, does_quietly, room_stays}
 use Rattle.pg_object.proofs.SameFacts.{plain_is, dirtied_residents, uncalled_tells, acts_same}
 use Rattle.pg_object.proofs.SealFacts.{with_parts, Same, Gone, Fates, does_parts, fewer_same}
@@ -131,6 +134,7 @@ pub store_copy_quiet : (hash : Hash) (old : ObjectNow) (regions : RegionsNow) (i
 store_copy_quiet hash old regions id page at bytes resolve permitted there after found room = record {
   same = refl;
   room = spare_left old.regions regions room;
+  gains = gains_spare nothing_back old.regions regions room (ap (λ (r : RegionsNow). r.room) after);
   untaken = λ p. refl;
   uncalled = λ pages. refl;
   step = λ pages.
@@ -155,6 +159,7 @@ store_page_acts hash old now id page at bytes resolve kept permitted none inside
   pages = pages;
   pages_after = with_piece page at bytes pages;
   outcome = 0;
+  few = omega arith;
   found = found;
   found_after = put_finds old.pages.cache now.cache page at bytes pages inside fits gives found;
   step =
@@ -163,12 +168,14 @@ store_page_acts hash old now id page at bytes resolve kept permitted none inside
       ∙ ap (λ (b : Bool). store_by b (seen old pages) (stored (seen old pages) id page at bytes)) (sym permitted);
   faults = ap (λ (c : CacheNow). c.pager.faults) gives.after;
   told = uncalled_tells old.pages.cache.pager now.cache.pager [] (ap (λ (c : CacheNow). c.pager) gives.after) refl;
+  reads = no_reads old.pages.cache.pager.reads now.cache.pager.reads (ap (λ (c : CacheNow). c.pager.reads) gives.after);
   sizes = record {
     limit = ap (λ (c : CacheNow). c.limit) gives.after;
     pages = ap (λ (c : CacheNow). c.pager.pages) gives.after;
     page_size = ap (λ (c : CacheNow). c.pager.page_size) gives.after;
   };
   room = room_stays old.regions;
+  gains = gains_same nothing_back old.regions;
 }
   where
     pages : List (List ℕ)
@@ -310,6 +317,16 @@ module _ (hash : Hash) (old : ObjectNow) (kept : IsKept hash old) (id page at : 
               writable = ap (λ (m : Marks). m.writable) here;
               resident = ap is_some (gives.found.others q f);
             })
+
+    -- a page that is checked is another
+    pub stores_elsewhere : (now : PagesNow) → PutGives old.pages.cache page at bytes now.cache → LeavesChecked old (with_parts old now old.regions)
+    stores_elsewhere now gives q there = by_test (q == page) refl
+      where
+        by_test : (b : Bool) → (q == page) ≡ b → resident_page now.cache q ≡ resident_page old.pages.cache q
+        by_test true f =
+            let same : q ≡ page = grind (arith, common_steps, f) in
+            absurd (false≢true (sym (ap is_some (kept.seals.unwritten page id writer)) ∙ ap (λ n. is_some (marks_of old.pages.marks n).validated) (sym same) ∙ checked_validated old q there))
+        by_test false f = gives.found.others q f
 
     pub stores_page : (now : PagesNow) → at + length bytes ≤ old.pages.cache.pager.page_size → PutGives old.pages.cache page at bytes now.cache
         → ChangesAt page old.pages.marks now.marks → IsMarked hash now.cache now.marks → now.calls ≡ old.pages.calls

@@ -13,10 +13,10 @@ use Rattle.pg_pages.specs.Pages.{PagesNow, IsMarked}
 use Rattle.pg_regions.specs.Lookups.{IsWriter}
 use Rattle.pg_regions.specs.RegionsNow.{RegionsNow, IsSound}
 use Rattle.pg_plain.specs.PlainFile.{Attached}
-use Rattle.pg_plain.specs.Covers.{covers, is_below_limit}
+use Rattle.pg_plain.specs.Covers.{Fits, covers, is_below_limit}
 use Rattle.pg_object.specs.Object.{ObjectNow, object_of}
 use Rattle.pg_object.specs.Seals.{seal_for, AreSealed}
-use Rattle.pg_object.specs.Kept.{IsLaid, IsInside, IsSigned, IsKept}
+use Rattle.pg_object.specs.Kept.{IsInside, IsSigned, IsKept}
 use Rattle.pg_object.specs.Acts.{Acts}
 use Rattle.pg_object.specs.Writes.{IsLess}
 use Rattle.pg_object.proofs.KeepFacts.{keep_after}
@@ -50,6 +50,7 @@ module _ (hash : Hash) (old : ObjectNow) (pages : PagesNow) (regions : RegionsNo
     laid = kept.laid;
     inside = subst (λ n. All (IsInside n) regions.regions) (sym acts.sizes.pages) (subst (All (IsInside old.pages.cache.pager.pages)) (sym same) kept.inside);
     signatures = subst (λ s. All (IsSigned hash s) old.blobs) (sym acts.sizes.page_size) kept.signatures;
+    fits = subst (λ s. All (λ attached. Fits s attached.signature) old.blobs) (sym acts.sizes.page_size) kept.fits;
     few_blobs = kept.few_blobs;
   }
 

@@ -14,12 +14,14 @@ use Rattle.cs_policy.specs.declared.file.FileReply.{FileReply}
 use Rattle.cs_policy.specs.declared.file.FileReply.TheVariants as reply
 use Rattle.pg_regions.proofs.ListFacts.{find-append}
 use Rattle.pg_plain.specs.PlainFile.{Attached}
-use Rattle.pg_plain.specs.Covers.{covers, share_a_page, is_below_limit}
+use Rattle.pg_plain.specs.Covers.{Fits, covers, share_a_page, is_below_limit}
 use Rattle.pg_plain.specs.Steps.{is_same_blob, add_blob_by}
 use Rattle.pg_object.specs.Object.{ObjectNow, seen, cover_of}
 use Rattle.pg_object.specs.Seals.{seal_for}
 use Rattle.pg_object.specs.Kept.{IsSigned, IsKept}
 use Rattle.pg_plain.proofs.FitFacts.{signed_fits}
+use Rattle.pg_object.specs.Acts.{nothing_back, given_back}
+use Rattle.pg_object.proofs.RoomFacts.{gains_same}
 use Rattle.pg_object.proofs.KeepFacts.{keep_after}
 use Rattle.pg_object.proofs.CheckedFacts.{checked_quietly}
 use Rattle.pg_object.proofs.QuietFacts.{Does, Quiet, acts_quietly, room_stays}
@@ -40,7 +42,7 @@ module _ (hash : Hash) (old : ObjectNow) (kept : IsKept hash old) (slice : ℕ) 
   unchanged : (answer : FileReply) → ((pages : List (List ℕ)) → (answer, seen old pages) ≡ add_blob_by same other (seen old pages) slice blob) → Adds answer old
   unchanged answer step =
       let quiet : Quiet hash old (event.AddBlob slice blob.cdhash read lookup) (Some blob) answer old =
-      record { same = refl; uncalled = λ pages. refl; step = step; room = room_stays old.regions; untaken = λ page. refl } in
+      record { same = refl; uncalled = λ pages. refl; step = step; room = room_stays old.regions; gains = gains_same (given_back answer) old.regions; untaken = λ page. refl } in
       record {
         acts = acts_quietly hash old old (event.AddBlob slice blob.cdhash read lookup) (Some blob) answer kept quiet;
         checked = checked_quietly old old (event.AddBlob slice blob.cdhash read lookup) answer refl (λ page. refl);
@@ -69,6 +71,7 @@ module _ (hash : Hash) (old : ObjectNow) (kept : IsKept hash old) (slice : ℕ) 
     uncalled = λ pages. refl;
     step = λ pages. ap (λ (o : Option ℕ). add_blob_by None o (seen old pages) slice blob) (sym f) ∙ ap (λ (o : Option ℕ). add_blob_by o other (seen old pages) slice blob) (sym e);
     room = room_stays old.regions;
+    gains = gains_same nothing_back old.regions;
     untaken = λ page. refl;
   }
 
@@ -107,6 +110,8 @@ module _ (hash : Hash) (old : ObjectNow) (kept : IsKept hash old) (slice : ℕ) 
           laid = kept.laid;
           inside = kept.inside;
           signatures = All-push (IsSigned hash old.pages.cache.pager.page_size) old.blobs one kept.signatures signed;
+          fits = All-push (λ (attached : Attached). Fits old.pages.cache.pager.page_size attached.signature) old.blobs one kept.fits
+              (signed_fits hash old.pages.cache.pager.page_size blob known signed);
           few_blobs = let long = length-append old.blobs (one ∷ []) in omega arith;
         };
       }

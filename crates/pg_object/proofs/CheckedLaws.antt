@@ -1,12 +1,12 @@
 -- A page that an object holds as checked is resident and sealed now.
-use Rattle.std.proofs.Common.{◌≡◌, ℕ, Bool, true, false, List, [], Option, Some, None, refl, sym, ap, subst, ◌∙◌, arith}
+use Rattle.std.proofs.Common.{◌≡◌, ℕ, true, List, [], Option, Some, None, refl, sym, ap, subst, ◌∙◌, arith}
 use Rattle.std.specs.Prelude.{IsTrue, IsSomeAnd, is_some, slice_index_or}
 use Rattle.std.proofs.lemmas.Grind.{common_steps}
+use Rattle.std.proofs.lemmas.Bool.{false≢true}
 use Rattle.std.proofs.lemmas.Option.{get_or_from_slice_get}
 use Rattle.std.specs.Option.{option_map}
 use Rattle.pg_digest.specs.Kinds.{Hash}
 use Rattle.cs_policy.specs.declared.access.Access.TheVariants.{Execute}
-use Rattle.cs_blob.specs.Signature.{Signature}
 use Rattle.pg_cache.specs.Held.{Held}
 use Rattle.pg_cache.specs.Cache.{resident_page}
 use Rattle.pg_cache.specs.Finds.{Finds}
@@ -19,10 +19,10 @@ use Rattle.pg_plain.specs.Keep.{IsSealedNow}
 use Rattle.pg_object.specs.Object.{ObjectNow, seen, cover_of}
 use Rattle.pg_object.specs.Kept.{IsKept}
 use Rattle.pg_object.specs.Seals.{seal_for}
-use Rattle.pg_object.specs.Checked.{is_checked, is_validated, AreSealedNow}
+use Rattle.pg_object.specs.Checked.{is_checked, AreSealedNow}
 use Rattle.pg_object.proofs.CheckedFacts.{checked_resident, checked_validated}
 use Rattle.pg_object.proofs.CompareFacts.{sealed_matches}
-use Rattle.pg_object.proofs.RuleFacts.{Against, against_holds}
+use Rattle.pg_object.proofs.RuleFacts.{against_holds}
 
 module _ (hash : Hash) (now : ObjectNow) (kept : IsKept hash now) (pages : List (List ℕ)) (finds : Finds now.pages.cache pages) (page : ℕ) where
   -- a resident page that was found sealed, and the signature that covers it
@@ -70,4 +70,8 @@ module _ (hash : Hash) (now : ObjectNow) (kept : IsKept hash now) (pages : List 
       by_held (Some held) e resident (Some seal) f some = by_cover held e seal f (cover_of now page) refl (kept.seals.signed page seal f)
 
 pub checked_sealed : (hash : Hash) (now : ObjectNow) → IsKept hash now → AreSealedNow hash now
-checked_sealed hash now kept pages finds page there = (checked_resident now page there, sealed_now hash now kept pages finds page there)
+checked_sealed hash now kept pages finds page there = record {
+  resident = checked_resident now page there;
+  is_sealed = sealed_now hash now kept pages finds page there;
+  unwritten = λ id writer. false≢true (sym (ap is_some (kept.seals.unwritten page id writer)) ∙ checked_validated now page there);
+}

@@ -3,6 +3,7 @@ use Rattle.std.proofs.Common.{◌≡◌, ◌≢◌, ℕ, ◌+◌, ◌-◌, ◌/�
 use Rattle.std.specs.Prelude.{◌&&◌, ◌||◌, ◌⊎◌, IsTrue, IsSome, All, IsSomeAnd, IfSome, IfOk, Result, Ok, Err, find, is_some, is_err, slice_get, unwrap_or, if◌then◌else◌}
 use Rattle.std.specs.Option.{option_map, option_map_or, option_or}
 use Rattle.std.proofs.lemmas.Grind.{common_steps}
+use Rattle.std.proofs.lemmas.Bool.{false≢true}
 use Rattle.std.proofs.lemmas.List.Elements.{recursion_from_All}
 use Rattle.std.proofs.lemmas.Option.{get_or_from_slice_get}
 use mathlib.Core.Path.{fun_ext}
@@ -39,7 +40,7 @@ use Rattle.pg_regions.specs.Lookups.{Copy, is_region, has_page, region_of, recor
 use Rattle.pg_regions.proofs.ListFacts.{found_passes, found_has}
 use Rattle.pg_regions.specs.RegionsNow.{RegionsNow}
 use Rattle.pg_plain.specs.PlainFile.{Attached, Resident, PlainFile, having, has_copy, is_resident, page_of}
-use Rattle.pg_plain.specs.Covers.{is_below_limit, parts}
+use Rattle.pg_plain.specs.Covers.{hash_page, is_below_limit, parts}
 use Rattle.pg_plain.specs.Verdict.{differs, private_copy, unsigned, beyond_limit, writable_shared, verdict_without_bytes, rule_of_bytes, verdict}
 use Rattle.pg_plain.specs.Calls.{needs_read, is_denied_unread, is_denied_read, victim_calls, enter_calls, page_calls}
 use Rattle.pg_plain.specs.Given.{victim, records_left, entered, given_page, fronted}
@@ -49,10 +50,13 @@ use Rattle.pg_object.specs.Seals.{seal_for, AreSealed}
 use Rattle.pg_object.specs.Kept.{IsInside, IsKept}
 use Rattle.pg_bytes.specs.Counts.{Rose}
 use Rattle.pg_object.specs.declared.take.Taken.{Taken}
-use Rattle.pg_object.specs.Acts.{LeavesRoom, room_of_access, Acts}
-use Rattle.pg_object.specs.Checked.{is_validated, is_checked, is_given, takes_out, takes_in, KeepsChecked, IsLazy}
+use Rattle.pg_object.specs.Acts.{LeavesRoom, room_of_access, nothing_back, Acts}
+use Rattle.pg_object.specs.Checked.{is_validated, is_checked, is_given, takes_out, takes_in, KeepsChecked, hash_pages, needs_bytes, IsLazy}
 use Rattle.pg_object.specs.Checked as checked
 use Rattle.pg_object.specs.Enters.{mapped, against, says, Hashes, Counts, Looks, marks_looked, Brought, Unmaps, records_gone, GivesTo, marks_given}
+use Rattle.pg_object.specs.PagerCalls.{reads_made, ReadsAfter}
+use Rattle.pg_object.proofs.PagerCallFacts.{no_reads, reads_are, reads_uncalled, fault_reads_to, fault_reads}
+use Rattle.pg_object.proofs.ReadFacts.{unread, peek_reads}
 use Rattle.pg_object.proofs.TellFacts.{tells_of}
 use Rattle.pg_object.proofs.KeepFacts.{resident_is}
 use Rattle.pg_object.proofs.CheckedFacts.{checked_is, checked_resident, checked_validated}
@@ -65,7 +69,8 @@ use Rattle.pg_object.proofs.FateFacts.{sealed_by, Marked, Took, looked_marked, t
 use Rattle.pg_object.proofs.RuleFacts.{Against, against_some, against_there}
 use Rattle.pg_object.proofs.WantedFacts.{each_hash_page}
 use Rattle.pg_object.proofs.GiveFacts.{has_of}
-use Rattle.pg_object.proofs.GivenFacts.{seen_parts, given_from, gives_plain, gives_regions, gives_sound, gives_room, Comes, gives_writers}
+use Rattle.pg_object.proofs.GivenFacts.{seen_parts, given_from, gives_plain, gives_regions, gives_sound, gives_room, gives_gains, Comes, gives_writers}
+use Rattle.pg_object.proofs.RoomFacts.{gains_same, gains_given}
 
 -- a page that was looked at
 abbrev noted_ok : Option Denial → Result (Option Denial) PagerFault
@@ -84,10 +89,15 @@ module _ (hash : Hash) (old : ObjectNow) (kept : IsKept hash old) (id page : ℕ
 
   -- ---- nothing changes
 
+  more_or_same : (n more : ℕ) → n ≤ n + more
+  more_or_same n more = omega arith
+
   lazy_nothing : (answer : FileReply) → is_given answer ≡ false → IsLazy old id page access answer old
   lazy_nothing answer ungiven = record {
     unhashed = λ other. refl;
     few = omega arith;
+    hashed = more_or_same old.pages.calls (hash_pages old page);
+    unneeded = λ none. refl;
     no_hash = λ there. refl;
     kept = λ executes none gives. absurd (grind (arith, common_steps, ungiven, gives));
     no_read = λ there. refl;
@@ -132,6 +142,7 @@ module _ (hash : Hash) (old : ObjectNow) (kept : IsKept hash old) (id page : ℕ
     uncalled = λ pages. ap (λ r. enter_calls hash (seen old pages) r page access flags) none;
     step = λ pages. ap (λ r. enter_region hash r (seen old pages) id page access (guarded flags) 0) (sym none);
     room = room_nothing;
+    gains = gains_same nothing_back old.regions;
     untaken = untaken_none;
   })
 
@@ -161,6 +172,7 @@ module _ (hash : Hash) (old : ObjectNow) (kept : IsKept hash old) (id page : ℕ
           (failed_or (write_fails (seen old pages) region page 0) (unwrap_or (left_for (seen old pages) page) page) (seen old pages)
           (give (seen old pages) region page access true None))))) (sym rule ∙ is));
       room = room_nothing;
+      gains = gains_same nothing_back old.regions;
       untaken = untaken_denied denial;
     })
 
@@ -285,6 +297,7 @@ module _ (hash : Hash) (old : ObjectNow) (kept : IsKept hash old) (id page : ℕ
             ∙ sym (seen_parts old old.pages regions content (record_of regions.records) (bytes_of regions.copies) (map resident_of old.pages.cache.held) (record { limit = refl; pages = refl; page_size = refl })
             (gives_regions old.regions region page access (guarded flags) (bytes_or (resident_page old.pages.cache page) []) regions gives_to).0 refl refl refl)));
         room = gives_room old.regions region page access (guarded flags) (bytes_or (resident_page old.pages.cache page) []) regions gives_to;
+        gains = gives_gains old.regions region page access (guarded flags) (bytes_or (resident_page old.pages.cache page) []) regions gives_to;
         untaken = λ q. by_access access q;
       }
         where
@@ -311,6 +324,8 @@ module _ (hash : Hash) (old : ObjectNow) (kept : IsKept hash old) (id page : ℕ
             lazy = record {
               unhashed = λ other. refl;
               few = omega arith;
+              hashed = more_or_same old.pages.calls (hash_pages old page);
+              unneeded = λ none. refl;
               no_hash = λ there. refl;
               kept = λ executes none given_it. absurd (grind (arith, common_steps, copy, ap (λ o. is_some (option_map (λ (c : Copy). c.bytes) o)) none));
               no_read = λ there. refl;
@@ -402,6 +417,36 @@ module _ (hash : Hash) (old : ObjectNow) (kept : IsKept hash old) (id page : ℕ
             λ there. (checked_lazy there b f).1,
           )
 
+      -- not more often than the page has hash pages in the signature that covers it
+      hashed_calls : seen_pages.calls ≤ old.pages.calls + hash_pages old page
+      hashed_calls = by_blob blob refl looks.counts
+        where
+          no_more : (now before more : ℕ) → now ≡ before → now ≤ before + more
+          no_more now before more same = omega arith
+
+          by_blob : (b : Option Signature) → blob ≡ b → Counts old.pages.cache.pager.page_size b old.pages page noted seen_pages → seen_pages.calls ≤ old.pages.calls + hash_pages old page
+          by_blob None f counts = no_more seen_pages.calls old.pages.calls (hash_pages old page) counts
+          by_blob (Some b) f counts =
+              let is = against_some old page kept.regions_sound region access broken b rule (sym held_against ∙ f) in
+              let own : hash_pages old page ≡ old.pages.cache.pager.page_size / hash_page b =
+              ap (λ (o : Option Attached). option_map_or (λ attached. old.pages.cache.pager.page_size / hash_page attached.signature) o 0) is.cover
+              ∙ ap (λ c. old.pages.cache.pager.page_size / hash_page c) is.own in
+              subst (λ n. seen_pages.calls ≤ old.pages.calls + n) (sym own) counts.few
+
+      -- and not at all where the access is judged without the page's bytes
+      unneeded_calls : needs_bytes old id page access ≡ false → seen_pages.calls ≡ old.pages.calls
+      unneeded_calls none = by_blob blob refl looks.counts
+        where
+          by_blob : (b : Option Signature) → blob ≡ b → Counts old.pages.cache.pager.page_size b old.pages page noted seen_pages → seen_pages.calls ≡ old.pages.calls
+          by_blob None f counts = counts
+          by_blob (Some b) f counts =
+              let is = against_some old page kept.regions_sound region access broken b rule (sym held_against ∙ f) in
+              let needed : needs_bytes old id page access ≡ true =
+              ap (needs_bytes old id page) is.executes
+              ∙ ap (λ (o : Option Region). option_map_or (λ r. not (is_some (verdict_without_bytes (seen old []) r page Execute))) o false) stands
+              ∙ ap (λ (o : Option Denial). not (is_some o)) (ap (verdict_without_bytes (seen old []) region page) (sym is.executes) ∙ sym rule ∙ is.unbroken) in
+              absurd (false≢true (sym none ∙ needed))
+
       leaves_of : (b : Bool) → is_err noted ≡ b → PeekLeaves old.pages.cache page b seen_pages.cache
       leaves_of b e = subst (λ c. PeekLeaves old.pages.cache page c seen_pages.cache) e looks.leaves
 
@@ -480,6 +525,8 @@ module _ (hash : Hash) (old : ObjectNow) (kept : IsKept hash old) (id page : ℕ
           lazy = record {
             unhashed = λ other. calls ∙ lazy_calls.0 other;
             few = let few = lazy_calls.1 in omega arith;
+            hashed = subst (λ n. n ≤ old.pages.calls + hash_pages old page) (sym calls) hashed_calls;
+            unneeded = λ none. calls ∙ unneeded_calls none;
             no_hash = λ there. calls ∙ lazy_calls.2 there;
             kept = λ executes none gives. absurd (grind (arith, common_steps, ungiven, gives));
             no_read = reads;
@@ -545,6 +592,13 @@ module _ (hash : Hash) (old : ObjectNow) (kept : IsKept hash old) (id page : ℕ
               pages = some_pages old.pages.cache;
               pages_after = some_pages old.pages.cache;
               outcome = 1;
+              few = subst (λ (l : List ℕ). 1 ≤ length l) (sym (calls_absent (some_pages old.pages.cache) absent)) (omega arith);
+              reads = reads_are 1 (reads_made hash (seen old (some_pages old.pages.cache)) (event.Enter id page access flags resolve) 1) old.pages.cache.pager.reads seen_pages.cache.pager.reads
+                  (sym (fault_reads_to 0 (page_calls hash (seen old (some_pages old.pages.cache)) (event.Enter id page access flags resolve)) page
+                  (if is_denied_read hash (seen old (some_pages old.pages.cache)) region page access flags then [] else victim_calls (victim (seen old (some_pages old.pages.cache)) page))
+                  (calls_absent (some_pages old.pages.cache) absent)))
+                  (subst (λ b. ReadsAfter (length (unread b page)) old.pages.cache.pager.reads seen_pages.cache.pager.reads) absent
+                  (peek_reads old.pages.cache seen_pages.cache page true (leaves_of true failed).steps));
               found = some_finds old.pages.cache kept.sound;
               found_after = finds_same old.pages.cache seen_pages.cache (some_pages old.pages.cache) looks.leaves.list looks.leaves.content looks.leaves.sizes (some_finds old.pages.cache kept.sound);
               step = ap (λ file. (reply.PagerFault page, file)) (seen_parts old seen_pages old.regions (some_pages old.pages.cache) (record_of old.regions.records) (bytes_of old.regions.copies) (map resident_of old.pages.cache.held) looks.leaves.sizes refl refl refl (ap (map resident_of) looks.leaves.list))
@@ -555,6 +609,7 @@ module _ (hash : Hash) (old : ObjectNow) (kept : IsKept hash old) (id page : ℕ
                   (subst (λ b. MadeCalls old.pages.cache.pager (if b then [] else true ∷ []) seen_pages.cache.pager) absent (peek_made old.pages.cache seen_pages.cache page true (leaves_of true failed).steps));
               sizes = looks.leaves.sizes;
               room = room_nothing;
+              gains = gains_same nothing_back old.regions;
             })
           where
             failed : is_err noted ≡ true
@@ -621,6 +676,25 @@ module _ (hash : Hash) (old : ObjectNow) (kept : IsKept hash old) (id page : ℕ
           same_reads : is_some (resident_page old.pages.cache page) ≡ true → seen_pages.cache.pager.reads ≡ old.pages.cache.pager.reads
           same_reads there = ap (λ (c : CacheNow). c.pager.reads) ((leaves_of false not_failed).no_call there).1
 
+          -- the page is read once, unless it is resident
+          reads_found : (reads : ℕ) → reads ≡ seen_pages.cache.pager.reads → (leaving : List ℕ)
+              → (is_some (resident_page old.pages.cache page) ≡ false → page_calls hash (seen old found_pages) (event.Enter id page access flags resolve) ≡ page ∷ leaving)
+              → ReadsAfter (reads_made hash (seen old found_pages) (event.Enter id page access flags resolve) 0) old.pages.cache.pager.reads reads
+          reads_found reads same leaving calls = by_resident (is_some (resident_page old.pages.cache page)) refl
+            where
+              by_resident : (b : Bool) → is_some (resident_page old.pages.cache page) ≡ b
+                  → ReadsAfter (reads_made hash (seen old found_pages) (event.Enter id page access flags resolve) 0) old.pages.cache.pager.reads reads
+              by_resident true e =
+                  reads_are 0 (reads_made hash (seen old found_pages) (event.Enter id page access flags resolve) 0) old.pages.cache.pager.reads reads
+                  (sym (reads_uncalled hash (seen old found_pages) (event.Enter id page access flags resolve) 0 (calls_resident found_pages e)))
+                  (no_reads old.pages.cache.pager.reads reads (same ∙ same_reads e))
+              by_resident false e =
+                  reads_are 1 (reads_made hash (seen old found_pages) (event.Enter id page access flags resolve) 0) old.pages.cache.pager.reads reads
+                  (sym (fault_reads (page_calls hash (seen old found_pages) (event.Enter id page access flags resolve)) page leaving (calls e)))
+                  (subst (λ n. ReadsAfter 1 old.pages.cache.pager.reads n) (sym same)
+                  (subst (λ b. ReadsAfter (length (unread b page)) old.pages.cache.pager.reads seen_pages.cache.pager.reads) e
+                  (peek_reads old.pages.cache seen_pages.cache page false (leaves_of false not_failed).steps)))
+
           -- a checked page says nothing
           checked_ok : is_checked old page ≡ true → is_some (marks_of seen_pages.marks page).validated ≡ true
           checked_ok there = by_blob blob refl
@@ -649,6 +723,9 @@ module _ (hash : Hash) (old : ObjectNow) (kept : IsKept hash old) (id page : ℕ
                   pages = found_pages;
                   pages_after = found_pages;
                   outcome = 0;
+                  few = omega arith;
+                  reads = reads_found seen_pages.cache.pager.reads refl []
+                      (λ e. calls_absent found_pages e ∙ ap (λ b. page ∷ (if b then [] else victim_calls (victim (seen old found_pages) page))) denied_read);
                   found = read.before;
                   found_after = read.after;
                   step = ap (λ file. (reply.Denied denial, file)) (seen_parts old seen_pages old.regions found_pages (record_of old.regions.records) (bytes_of old.regions.copies) (map resident_of old.pages.cache.held) looks.leaves.sizes refl refl refl (ap (map resident_of) looks.leaves.list))
@@ -660,6 +737,7 @@ module _ (hash : Hash) (old : ObjectNow) (kept : IsKept hash old) (id page : ℕ
                   told = tells_of old.pages.cache.pager seen_pages.cache.pager (length (page_calls hash (seen old found_pages) (event.Enter id page access flags resolve))) 0 (omega arith) (by_resident (is_some (resident_page old.pages.cache page)) refl);
                   sizes = looks.leaves.sizes;
                   room = room_nothing;
+                  gains = gains_same nothing_back old.regions;
                 })
               where
                 denied_read : is_denied_read hash (seen old found_pages) region page access flags ≡ true
@@ -764,6 +842,12 @@ module _ (hash : Hash) (old : ObjectNow) (kept : IsKept hash old) (id page : ℕ
                     pages = found_pages;
                     pages_after = found_pages;
                     outcome = 2;
+                    few = subst (λ (l : List ℕ). 2 ≤ length l) (sym calls_now) (omega arith);
+                    reads = reads_are 1 (reads_made hash (seen old found_pages) (event.Enter id page access flags resolve) 2) old.pages.cache.pager.reads pages.cache.pager.reads
+                        (sym (fault_reads_to 1 (page_calls hash (seen old found_pages) (event.Enter id page access flags resolve)) page (v.0.page ∷ []) calls_now))
+                        (subst (λ n. ReadsAfter 1 old.pages.cache.pager.reads n) (sym (gives_failed.no_read there))
+                        (subst (λ b. ReadsAfter (length (unread b page)) old.pages.cache.pager.reads seen_pages.cache.pager.reads) absent_now
+                        (peek_reads old.pages.cache seen_pages.cache page false (leaves_of false not_failed).steps)));
                     found = read.before;
                     found_after = bring_failed_finds seen_pages.cache pages.cache page fault found_pages gives_failed read.after;
                     step = ap (λ file. (reply.PagerFault fault.page, file)) (seen_parts old pages old.regions found_pages (record_of old.regions.records) (bytes_of old.regions.copies) (map resident_of old.pages.cache.held)
@@ -778,6 +862,7 @@ module _ (hash : Hash) (old : ObjectNow) (kept : IsKept hash old) (id page : ℕ
                         (bring_made seen_pages.cache pages.cache page (Err fault) absent_seen there gives_failed.steps)));
                     sizes = sizes_both old.pages.cache seen_pages.cache pages.cache looks.leaves.sizes gives_failed.sizes;
                     room = room_nothing;
+                    gains = gains_same nothing_back old.regions;
                   })
 
             -- ---- the page was brought
@@ -887,12 +972,17 @@ module _ (hash : Hash) (old : ObjectNow) (kept : IsKept hash old) (id page : ℕ
                 pages = found_pages;
                 pages_after = found_pages;
                 outcome = 0;
+                few = omega arith;
+                reads = reads_found given_pages.cache.pager.reads (ap (λ (c : CacheNow). c.pager.reads) own_cache ∙ gives_fine.no_read there)
+                    (victim_calls (victim (seen old found_pages) page))
+                    (λ e. calls_absent found_pages e ∙ ap (λ b. page ∷ (if b then [] else victim_calls (victim (seen old found_pages) page))) fine_read);
                 found = read.before;
                 found_after = subst (λ (c : CacheNow). Finds c found_pages) (sym own_cache) (brought_read old.pages.cache seen_pages.cache pages.cache page left hand.0 inside (leaves_of false not_failed) hand.1.0 read gives_fine);
                 step = final_step;
                 faults = ap (λ (c : CacheNow). c.pager.faults) own_cache ∙ gives_fine.faults ∙ (leaves_of false not_failed).faults;
                 told = tells_of old.pages.cache.pager given_pages.cache.pager (length (page_calls hash (seen old found_pages) (event.Enter id page access flags resolve))) 0 (omega arith) (final_made (is_some (resident_page old.pages.cache page)) refl);
                 sizes = final_sizes;
+                gains = gains_given left old.regions unmapped regions unmaps.none unmaps.others (gives_gains unmapped region page access (guarded flags) hand.0.bytes regions gives_it);
                 room =
                     let given_room = gives_room unmapped region page access (guarded flags) hand.0.bytes regions gives_it in
                     record {
@@ -1154,6 +1244,8 @@ module _ (hash : Hash) (old : ObjectNow) (kept : IsKept hash old) (id page : ℕ
                 lazy = record {
                   unhashed = λ other. own_calls ∙ lazy_calls.0 other;
                   few = let few = lazy_calls.1 in let same = own_calls in omega arith;
+                  hashed = subst (λ n. n ≤ old.pages.calls + hash_pages old page) (sym own_calls) hashed_calls;
+                  unneeded = λ none. own_calls ∙ unneeded_calls none;
                   no_hash = λ was. own_calls ∙ lazy_calls.2 was;
                   kept = λ executes none gives_all. final_kept executes gives_all;
                   no_read = λ resident. ap (λ (c : CacheNow). c.pager.reads) own_cache ∙ ap (λ (p : PagerNow). p.reads) (gives_fine.no_call (seen_resident ∙ resident)).1 ∙ same_reads resident;

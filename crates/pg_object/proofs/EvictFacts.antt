@@ -1,5 +1,5 @@
 -- A page that leaves memory: the call is the plain step.
-use Rattle.std.proofs.Common.{◌≡◌, ◌≢◌, ℕ, Bool, true, false, List, [], ◌∷◌, Option, Some, None, length, refl, sym, ap, subst, ◌∙◌, arith, not, inl, inr}
+use Rattle.std.proofs.Common.{◌≡◌, ◌≢◌, ℕ, Bool, true, false, List, [], ◌∷◌, Option, Some, None, length, refl, sym, ap, subst, ◌∙◌, arith, not, inl, inr, ◌≤◌}
 use Rattle.std.specs.Prelude.{◌⊎◌, ◌==◌, ◌&&◌, All, Result, Ok, Err, IfSome, IsSomeAnd, MatchOption, MatchBool, is_some, option_map, if◌then◌else◌}
 use Rattle.std.specs.Option.{option_map_or}
 use Rattle.std.proofs.lemmas.Grind.{common_steps}
@@ -30,7 +30,10 @@ use Rattle.pg_plain.specs.Calls.{page_calls, failed_page}
 use Rattle.pg_plain.specs.Steps.{Answer, evict_by}
 use Rattle.pg_object.specs.Object.{ObjectNow, seen}
 use Rattle.pg_object.specs.Kept.{IsInside, IsKept}
-use Rattle.pg_object.specs.Acts.{results, Tells, Acts}
+use Rattle.pg_object.specs.Acts.{results, Tells, nothing_back, given_back, Acts}
+use Rattle.pg_object.specs.PagerCalls.{reads_made}
+use Rattle.pg_object.proofs.PagerCallFacts.{no_reads, reads_are, reads_of_writes}
+use Rattle.pg_object.proofs.RoomFacts.{gains_same, gains_records}
 use Rattle.pg_object.proofs.TellFacts.{tells_of}
 use Rattle.pg_object.proofs.KeepFacts.{resident_is}
 use Rattle.pg_object.proofs.SameFacts.{plain_is, left_residents, unchanged_seen, dirty_is, acts_same}
@@ -101,6 +104,7 @@ evicted_acts hash old now regions page kept gives after found room = record {
   pages = pages;
   pages_after = pages;
   outcome = 0;
+  few = omega arith;
   found = some_finds old.pages.cache kept.sound;
   found_after = evict_finds old.pages.cache now.cache page true pages gives (some_finds old.pages.cache kept.sound);
   step =
@@ -108,8 +112,12 @@ evicted_acts hash old now regions page kept gives after found room = record {
       ∙ ap (λ (b : Bool). evict_answer b None (seen old pages) page) (sym (there_seen old now.cache page true pages gives));
   faults = gives.faults;
   told = tells_of old.pages.cache.pager now.cache.pager (length (page_calls hash (seen old pages) (event.Evict page))) 0 (omega arith) made;
+  reads = reads_are 0 (reads_made hash (seen old pages) (event.Evict page) 0) old.pages.cache.pager.reads now.cache.pager.reads
+      (sym (reads_of_writes (length (page_calls hash (seen old pages) (event.Evict page))) (page_calls hash (seen old pages) (event.Evict page))))
+      (no_reads old.pages.cache.pager.reads now.cache.pager.reads gives.reads);
   sizes = gives.sizes;
   room = room_kept old.regions regions room;
+  gains = gains_records (given_back reply.Evicted) old.regions regions refl (after ∙ ap (λ (now : RegionsNow). record old.regions { records = now.records }) (sym after));
 }
   where
     pages : List (List ℕ)
@@ -186,6 +194,7 @@ failed_acts hash old now page fault kept gives =
       pages = pages;
       pages_after = pages;
       outcome = 1;
+      few = subst (λ (l : List ℕ). 1 ≤ length l) (sym one) (omega arith);
       found = finds;
       found_after = evict_failed_finds old.pages.cache now.cache page fault pages gives finds;
       step =
@@ -194,8 +203,11 @@ failed_acts hash old now page fault kept gives =
           ∙ ap (λ (l : List ℕ). evict_answer (plain.is_resident (seen old pages) page) (failed_page l 1) (seen old pages) page) (sym one);
       faults = gives.faults;
       told = subst (λ (l : List ℕ). IfSome old.pages.cache.pager.told (λ b. IsSomeAnd now.cache.pager.told (λ n. Tells b (length l) 1 n))) (sym one) (tells_of old.pages.cache.pager now.cache.pager 1 1 (omega arith) made);
+      reads = reads_are 0 (reads_made hash (seen old pages) (event.Evict page) 1) old.pages.cache.pager.reads now.cache.pager.reads
+          (sym (reads_of_writes 1 (page_calls hash (seen old pages) (event.Evict page)))) (no_reads old.pages.cache.pager.reads now.cache.pager.reads gives.reads);
       sizes = gives.sizes;
       room = room_stays old.regions;
+      gains = gains_same nothing_back old.regions;
     }
 
 -- ---- the marks

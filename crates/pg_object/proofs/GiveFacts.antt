@@ -15,6 +15,8 @@ use Rattle.pg_regions.specs.RegionsNow.{RegionsNow, Room, spare, IsSound}
 use Rattle.pg_regions.specs.Steps.{ChangesRecord, ChangesCopy, one_copy_less, granted, private_copy, spare_granted, stripped, FindsStripped, with_copy}
 use Rattle.pg_plain.specs.Given.{put_at}
 use Rattle.pg_object.specs.Enters.{IsAtHand, Grants, StripsPage, Copies}
+use Rattle.pg_object.specs.Acts.{nothing_back}
+use Rattle.pg_object.proofs.RoomFacts.{gains_same, gains_copy}
 use Rattle.pg_object.proofs.StripFacts.{found_stripped}
 
 -- a function of region and page that was changed at one of them
@@ -60,6 +62,7 @@ copies old new region page bytes absent after found room sound = record {
     records = let now = ap (λ (room : Room). room.records) room in omega arith;
     copies = let now = ap (λ (room : Room). room.copies) room in omega arith;
   };
+  gains = gains_copy old new room (ap (λ (now : RegionsNow). now.room) after);
   sound = sound;
 }
   where
@@ -71,6 +74,7 @@ copies_already old region page bytes there sound = record {
   copies = λ i p. sym (ap (λ b. if b then bytes_of old.copies i p else put_at region.id page bytes (bytes_of old.copies) i p) there);
   others = refl;
   room = record { regions = omega arith; records = omega arith; copies = omega arith };
+  gains = gains_same nothing_back old;
   sound = sound;
 }
 

@@ -16,8 +16,9 @@ use Rattle.pg_regions.specs.Steps.{blank, given, spare_granted, one_record_less}
 use Rattle.pg_plain.specs.PlainFile.{Resident, PlainFile, page_of}
 use Rattle.pg_plain.specs.Given.{put_at, granted, stripped, copied, written_to, unexecuted}
 use Rattle.pg_object.specs.Object.{ObjectNow, resident_of, seen}
-use Rattle.pg_object.specs.Acts.{LeavesRoom, room_of_access}
+use Rattle.pg_object.specs.Acts.{LeavesRoom, room_of_access, nothing_back, GainsRoom}
 use Rattle.pg_object.specs.Enters.{Grants, StripsPage, Copies, WritesTo, GivesTo}
+use Rattle.pg_object.proofs.RoomFacts.{gains_spare, gains_record, gains_both}
 use Rattle.pg_object.proofs.AfterFacts.{with_parts}
 
 -- the object with other pages and regions, as a plain file
@@ -158,6 +159,16 @@ gives_room old region page Write guarded bytes new gives = by_shared region.shar
       records = let now = copies.room.records in let one = first.records in omega arith;
       copies = let now = copies.room.copies in let one = first.copies in omega arith;
     }
+
+pub gives_gains : (old : RegionsNow) (region : Region) (page : ℕ) (access : Access) (guarded : Bool) (bytes : List ℕ) (new : RegionsNow) → GivesTo old region page access guarded bytes new → GainsRoom nothing_back old new
+gives_gains old region page Read guarded bytes new gives = gains_record old region.id page new gives.room (ap (λ (now : RegionsNow). now.room) gives.others)
+gives_gains old region page Execute guarded bytes new gives = gains_record old region.id page new gives.room (ap (λ (now : RegionsNow). now.room) gives.others)
+gives_gains old region page Write guarded bytes new gives =
+    gains_both old gives.0 new (gains_record old region.id page gives.0 gives.1.0.room (ap (λ (now : RegionsNow). now.room) gives.1.0.others)) (by_shared region.shared gives.1.1)
+  where
+    by_shared : (b : Bool) → MatchBool b (StripsPage gives.0 page new) (Copies gives.0 region page bytes new) → GainsRoom nothing_back gives.0 new
+    by_shared true strips = gains_spare nothing_back gives.0 new strips.room (ap (λ (now : RegionsNow). now.room) strips.others)
+    by_shared false copies = copies.gains
 
 -- ---- a writer that comes is the region, where it is shared and writes the page
 

@@ -15,12 +15,14 @@ pub mod KeepFacts
 pub mod LookFacts
 pub mod MarkFacts
 pub mod OpenFacts
+pub mod PagerCallFacts
 pub mod PartFacts
 pub mod QuietFacts
 pub mod RangeFacts
 pub mod ReachFacts
 pub mod ReadFacts
 pub mod RegionFacts
+pub mod RoomFacts
 pub mod RuleFacts
 pub mod SameFacts
 pub mod SealFacts

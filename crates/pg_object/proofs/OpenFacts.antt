@@ -14,6 +14,7 @@ use Rattle.pg_pages.proofs.MarkLaws.{forgotten_blank}
 use Rattle.pg_regions.specs.RegionsNow.{RegionsNow, empty}
 use Rattle.pg_regions.specs.RegionsNow as regions
 use Rattle.pg_plain.specs.PlainFile.{Attached, opened}
+use Rattle.pg_plain.specs.Covers.{Fits}
 use Rattle.pg_plain.specs.Keep.{Keep}
 use Rattle.pg_object.specs.declared.opening.Room.{Room}
 use Rattle.pg_object.specs.Object.{ObjectNow, object_of, seen}
@@ -73,6 +74,7 @@ module _ (hash : Hash) (pages now : PagesNow) (length : ℕ) (layout : Layout) (
     laid = laid;
     inside = All-nil (IsInside now.cache.pager.pages);
     signatures = All-nil (IsSigned hash now.cache.pager.page_size);
+    fits = All-nil (λ (attached : Attached). Fits now.cache.pager.page_size attached.signature);
     few_blobs = omega arith;
   }
 

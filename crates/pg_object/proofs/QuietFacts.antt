@@ -16,9 +16,11 @@ use Rattle.pg_regions.specs.Steps.{KeepsRoom}
 use Rattle.pg_plain.specs.Calls.{page_calls}
 use Rattle.pg_plain.specs.Steps.{file_step}
 use Rattle.pg_object.specs.Object.{ObjectNow, seen}
+use Rattle.pg_object.specs.PagerCalls.{reads_made}
 use Rattle.pg_object.specs.Kept.{IsInside, IsKept}
-use Rattle.pg_object.specs.Acts.{results, room_used, LeavesRoom, Acts}
+use Rattle.pg_object.specs.Acts.{results, room_used, LeavesRoom, given_back, GainsRoom, Acts}
 use Rattle.pg_object.specs.Checked.{takes_out, KeepsChecked}
+use Rattle.pg_object.proofs.PagerCallFacts.{no_reads, reads_are, reads_uncalled}
 use Rattle.pg_object.proofs.TellFacts.{tells_of}
 use Rattle.pg_object.proofs.KeepFacts.{keep_after}
 use Rattle.pg_object.proofs.CheckedFacts.{checked_quietly}
@@ -36,6 +38,7 @@ pub record Quiet (hash : Hash) (old : ObjectNow) (e : FileEvent) (blob : Option 
   pub uncalled : (pages : List (List ℕ)) → page_calls hash (seen old pages) e ≡ []
   pub step : (pages : List (List ℕ)) → (answer, seen new pages) ≡ file_step hash (seen old pages) e blob 0
   pub room : LeavesRoom (room_used e) old.regions new.regions
+  pub gains : GainsRoom (given_back answer) old.regions new.regions
   pub untaken : (page : ℕ) → takes_out old e answer page ≡ false
 
 pub acts_quietly : (hash : Hash) (old new : ObjectNow) (e : FileEvent) (blob : Option Signature) (answer : FileReply) → IsKept hash old
@@ -44,17 +47,21 @@ acts_quietly hash old new e blob answer kept quiet = record {
   pages = pages;
   pages_after = pages;
   outcome = 0;
+  few = omega arith;
   found = some_finds old.pages.cache kept.sound;
   found_after = subst (λ (now : PagesNow). Finds now.cache pages) (sym quiet.same) (some_finds old.pages.cache kept.sound);
   step = quiet.step pages;
   faults = ap (λ (now : PagesNow). now.cache.pager.faults) quiet.same;
   told = tells_of old.pages.cache.pager new.pages.cache.pager (length (page_calls hash (seen old pages) e)) 0 (omega arith) made;
+  reads = reads_are 0 (reads_made hash (seen old pages) e 0) old.pages.cache.pager.reads new.pages.cache.pager.reads (sym (reads_uncalled hash (seen old pages) e 0 (quiet.uncalled pages)))
+      (no_reads old.pages.cache.pager.reads new.pages.cache.pager.reads (ap (λ (now : PagesNow). now.cache.pager.reads) quiet.same));
   sizes = record {
     limit = ap (λ (now : PagesNow). now.cache.limit) quiet.same;
     pages = ap (λ (now : PagesNow). now.cache.pager.pages) quiet.same;
     page_size = ap (λ (now : PagesNow). now.cache.pager.page_size) quiet.same;
   };
   room = quiet.room;
+  gains = quiet.gains;
 }
   where
     pages : List (List ℕ)
@@ -91,6 +98,7 @@ kept_quietly hash old regions e answer kept quiet fewer = record {
   laid = kept.laid;
   inside = fewer.inside;
   signatures = kept.signatures;
+  fits = kept.fits;
   few_blobs = kept.few_blobs;
 }
 

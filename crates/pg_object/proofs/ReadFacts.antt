@@ -1,6 +1,6 @@
 -- Reading a range page by page: what each step leaves.
 use Rattle.std.proofs.Common.{◌≡◌, ℕ, zero, suc, ◌+◌, ◌-◌, ◌*◌, ◌/◌, ◌<◌, ◌≤◌, Bool, true, false, List, [], ◌∷◌, ◌++◌, length, take, drop, replicate, Option, Some, None, refl, sym, ap, subst, ◌∙◌, arith, not, inl, inr, length-append}
-use Rattle.std.specs.Prelude.{◌⊎◌, IsTrue, vec_len, vec_capacity, Result, Ok, Err, OnOk, is_err, min, is_some, unwrap_or, filter, slice_set, option_map, if◌then◌else◌}
+use Rattle.std.specs.Prelude.{◌⊎◌, IsTrue, MatchOption, vec_len, vec_capacity, Result, Ok, Err, OnOk, is_err, min, is_some, unwrap_or, filter, slice_set, option_map, if◌then◌else◌}
 use Rattle.std.specs.List.{concat, range_with_len}
 use Rattle.std.specs.Borrow.{Bor}
 use Rattle.std.specs.Global.{Vec}
@@ -14,6 +14,7 @@ use Rattle.pg_io.proofs.CallLaws.{no_calls, calls_made}
 use Rattle.pg_cache.specs.Held.{Held, find_held}
 use Rattle.pg_cache.specs.Cache.{CacheNow, resident_page, at_hand, IsSound, KeepsSizes}
 use Rattle.pg_cache.specs.Gives.{PeekLeaves, PeekGives}
+use Rattle.pg_cache.specs.Steps.{ReadsSpare, Peeks}
 use Rattle.pg_cache.specs.Finds.{Finds}
 use Rattle.pg_cache.specs.declared.fault.PagerFault.{PagerFault}
 use Rattle.pg_cache.proofs.GiveFacts.{sizes_both}
@@ -21,6 +22,8 @@ use Rattle.pg_cache.proofs.Laws.{some_pages, some_finds, finds_same, peek_read_f
 use Rattle.pg_cache.proofs.MadeLaws.{peek_made}
 use Rattle.pg_pages.specs.Marks.{blank, marks_of}
 use Rattle.pg_pages.specs.Pages.{PagesNow, IsMarked}
+use Rattle.pg_object.specs.PagerCalls.{ReadsAfter}
+use Rattle.pg_object.proofs.PagerCallFacts.{no_reads, one_read, reads_both, reads_are}
 use Rattle.pg_object.specs.Writes.{end_reached}
 use Rattle.pg_object.specs.Reads.{hand_bytes, range_on, unread_before, Looks, FindsPage, ReadBefore, ReadFailed}
 use Rattle.pg_object.proofs.RangeFacts.{Reaches, page_reached, page_inside, none_read, next_read, longer, first_last}
@@ -106,6 +109,14 @@ unread_next cache at page first =
 well_more : (xs ys : List ℕ) → replicate (length xs) false ++ replicate (length ys) false ≡ replicate (length (xs ++ ys)) false
 well_more xs ys = replicate-append-replicate (length xs) (length ys) false ∙ ap (λ n. replicate n false) (sym (length-append xs ys))
 
+-- a page that is looked at is read once, unless it is resident
+pub peek_reads : (old new : CacheNow) (page : ℕ) (failed : Bool) → Peeks old page failed new → ReadsAfter (length (unread (is_some (resident_page old page)) page)) old.pager.reads new.pager.reads
+peek_reads old new page failed peeks = by_page (resident_page old page) peeks
+  where
+    by_page : (o : Option Held) → MatchOption o (ReadsSpare old page failed new) (λ _. (failed ≡ false) × (new ≡ old)) → ReadsAfter (length (unread (is_some o) page)) old.pager.reads new.pager.reads
+    by_page None reads = one_read old.pager.reads new.pager.reads reads.read.reads
+    by_page (Some held) same = no_reads old.pager.reads new.pager.reads (ap (λ (c : CacheNow). c.pager.reads) same.1)
+
 module _ (hash : Hash) (old mid new : PagesNow) (at count page : ℕ) (bytes : List ℕ) (was : ReadBefore hash old at count page bytes mid) (first : at / old.cache.pager.page_size ≤ page)
     (looks : Looks hash mid new) where
   resident_still : is_some (resident_page mid.cache page) ≡ is_some (resident_page old.cache page)
@@ -126,6 +137,10 @@ module _ (hash : Hash) (old mid new : PagesNow) (at count page : ℕ) (bytes : L
     made = subst (λ l. MadeCalls old.cache.pager l new.cache.pager) (one_more (is_some (resident_page old.cache page)) refl)
         (calls_made old.cache.pager mid.cache.pager new.cache.pager (replicate (length (unread_before old.cache at page)) false)
         (if is_some (resident_page mid.cache page) then [] else false ∷ []) was.made (peek_made mid.cache new.cache page false leaves.steps));
+    reads = reads_are (length (unread_before old.cache at page) + length (unread (is_some (resident_page old.cache page)) page)) (length (unread_before old.cache at (page + 1))) old.cache.pager.reads new.cache.pager.reads
+        (sym (ap length (unread_next old.cache at page first) ∙ length-append (unread_before old.cache at page) (unread (is_some (resident_page old.cache page)) page)))
+        (reads_both (length (unread_before old.cache at page)) (length (unread (is_some (resident_page old.cache page)) page)) old.cache.pager.reads mid.cache.pager.reads new.cache.pager.reads was.reads
+        (subst (λ b. ReadsAfter (length (unread b page)) mid.cache.pager.reads new.cache.pager.reads) resident_still (peek_reads mid.cache new.cache page false leaves.steps)));
     faults = leaves.faults ∙ was.faults;
   }
     where
@@ -153,6 +168,8 @@ module _ (hash : Hash) (old mid new : PagesNow) (at count page : ℕ) (bytes : L
     after = finds_same mid.cache new.cache was.pages leaves.list leaves.content leaves.sizes was.after;
     looks = looks_both hash old mid new was.looks looks;
     made = by_page (resident_page mid.cache page) refl;
+    reads = reads_both (length (unread_before old.cache at page)) 1 old.cache.pager.reads mid.cache.pager.reads new.cache.pager.reads was.reads
+        (subst (λ o. ReadsAfter (length (unread (is_some o) page)) mid.cache.pager.reads new.cache.pager.reads) (absent (resident_page mid.cache page) refl) (peek_reads mid.cache new.cache page true leaves.steps));
     faults = subst (λ n. Rose n new.cache.pager.faults) was.faults leaves.faults;
     unread = ap (λ (l : List Held). find_held l page) (sym was.looks.held) ∙ absent (resident_page mid.cache page) refl;
     first = first;
@@ -183,6 +200,8 @@ read_none hash old at count known sound marked =
       looks = looks_same hash old sound marked;
       made = subst (λ n. MadeCalls old.cache.pager (replicate (length (filter (λ q. not (is_some (resident_page old.cache q))) (range_with_len (at / size) n))) false) old.cache.pager)
           {x = 0} {y = at / size - at / size} (omega arith) (no_calls old.cache.pager);
+      reads = subst (λ n. ReadsAfter (length (filter (λ q. not (is_some (resident_page old.cache q))) (range_with_len (at / size) n))) old.cache.pager.reads old.cache.pager.reads)
+          {x = 0} {y = at / size - at / size} (omega arith) (no_reads old.cache.pager.reads old.cache.pager.reads refl);
       faults = refl;
     }
 

@@ -24,6 +24,8 @@ use Rattle.pg_plain.specs.PlainFile.{PlainFile}
 use Rattle.pg_plain.specs.Steps.{is_gone, without_regions}
 use Rattle.pg_object.specs.Object.{ObjectNow, seen}
 use Rattle.pg_object.specs.Kept.{IsInside, IsKept}
+use Rattle.pg_object.specs.Acts.{nothing_back}
+use Rattle.pg_object.proofs.RoomFacts.{gains_same, gains_region, gains_all}
 use Rattle.pg_object.proofs.QuietFacts.{Does, Fewer, does_quietly, does_nothing, room_stays, room_kept}
 
 -- ---- a region comes
@@ -58,6 +60,7 @@ module _ (hash : Hash) (old : ObjectNow) (region : Region) (insert : ℕ) (kept 
       records = let now = ap (λ (room : Room). room.records) less in omega arith;
       copies = let now = ap (λ (room : Room). room.copies) less in omega arith;
     };
+    gains = gains_region nothing_back old.regions regions less (ap (λ (now : RegionsNow). now.room) after);
     untaken = λ page. refl;
   }) (record {
     sound = sound;
@@ -84,6 +87,7 @@ module _ (hash : Hash) (old : ObjectNow) (region : Region) (insert : ℕ) (kept 
     step = λ pages. ap (λ there. (reply.Added, if there then seen old pages else record (seen old pages) { regions = in_order region_before region old.regions.regions }))
         (sym stands);
     room = record { regions = omega arith; records = omega arith; copies = omega arith };
+    gains = gains_same nothing_back old.regions;
     untaken = λ page. refl;
   })
 
@@ -158,6 +162,7 @@ module _ (hash : Hash) (old : ObjectNow) (kept : IsKept hash old) (regions : Reg
         ∙ ap (λ file. (reply.DroppedAll (count_by (λ region. region.pid == pid) old.regions.regions), file))
         (seen_without old regions (λ region. region.pid == pid) pages (is_of_pid old.regions.regions pid) (ap (λ now. now.regions) after) (λ i. refl) found);
     room = room_kept old.regions regions room;
+    gains = gains_all old.regions regions (ap (λ (now : RegionsNow). now.room) after);
     untaken = λ page. refl;
   }) (fewer_left hash old regions (λ region. region.pid == pid) (is_of_pid old.regions.regions pid) kept sound (ap (λ now. now.page) after) (ap (λ now. now.regions) after) found)
 
@@ -170,6 +175,7 @@ module _ (hash : Hash) (old : ObjectNow) (kept : IsKept hash old) (regions : Reg
         ap (λ file. (reply.Dropped, file)) (seen_without old regions (λ region. region.id == id) pages (λ i. i == id) (ap (λ now. now.regions) after) (gone_is (seen old pages) id stands) found)
         ∙ ap (λ there. if there then (reply.Dropped, without_regions (λ region. region.id == id) (seen old pages)) else (reply.NoRegion id, seen old pages)) (sym stands);
     room = room_kept old.regions regions room;
+    gains = gains_all old.regions regions (ap (λ (now : RegionsNow). now.room) after);
     untaken = λ page. refl;
   }) (fewer_left hash old regions (λ region. region.id == id) (λ i. i == id) kept sound (ap (λ now. now.page) after) (ap (λ now. now.regions) after) found)
 
@@ -179,6 +185,7 @@ module _ (hash : Hash) (old : ObjectNow) (kept : IsKept hash old) (regions : Reg
     uncalled = λ pages. refl;
     step = λ pages. ap (λ there. if there then (reply.Dropped, without_regions (λ region. region.id == id) (seen old pages)) else (reply.NoRegion id, seen old pages)) (sym absent);
     room = room_stays old.regions;
+    gains = gains_same nothing_back old.regions;
     untaken = λ page. refl;
   })
 
@@ -197,6 +204,7 @@ refuses hash old read refusal kept = does_nothing hash old (event.RefuseBlob rea
   uncalled = λ pages. refl;
   step = λ pages. refl;
   room = room_stays old.regions;
+  gains = gains_same nothing_back old.regions;
   untaken = λ page. refl;
 })
 

@@ -25,8 +25,11 @@ use Rattle.pg_regions.specs.RegionsNow.{RegionsNow, Room}
 use Rattle.pg_plain.specs.Calls.{page_calls}
 use Rattle.pg_plain.specs.Steps.{file_step}
 use Rattle.pg_object.specs.Kept.{IsKept}
-use Rattle.pg_object.specs.Acts.{Tells, LeavesRoom, room_used, Acts}
+use Rattle.pg_object.specs.Acts.{Tells, LeavesRoom, room_used, given_back, Acts}
+use Rattle.pg_object.specs.PagerCalls.{reads_made}
+use Rattle.pg_object.proofs.RoomFacts.{gains_same}
 use Rattle.pg_object.proofs.TellFacts.{tells_of}
+use Rattle.pg_object.proofs.PagerCallFacts.{no_reads, reads_are, reads_uncalled}
 use Rattle.pg_object.proofs.KeepFacts.{found_resident}
 
 -- whether a resident page is dirty
@@ -123,11 +126,15 @@ acts_same hash old e answer kept uncalled step =
       pages = pages;
       pages_after = pages;
       outcome = 0;
+      few = omega arith;
       found = found;
       found_after = found;
       step = step pages found;
       faults = refl;
       told = uncalled_tells old.pages.cache.pager old.pages.cache.pager (page_calls hash (seen old pages) e) refl (uncalled pages);
+      reads = reads_are 0 (reads_made hash (seen old pages) e 0) old.pages.cache.pager.reads old.pages.cache.pager.reads (sym (reads_uncalled hash (seen old pages) e 0 (uncalled pages)))
+          (no_reads old.pages.cache.pager.reads old.pages.cache.pager.reads refl);
       sizes = record { limit = refl; pages = refl; page_size = refl };
       room = room_same (room_used e) old.regions;
+      gains = gains_same (given_back answer) old.regions;
     }

@@ -14,10 +14,10 @@ use Rattle.pg_pages.specs.Pages.{PagesNow, IsMarked}
 use Rattle.pg_regions.specs.Lookups.{IsWriter}
 use Rattle.pg_regions.specs.RegionsNow.{RegionsNow}
 use Rattle.pg_plain.specs.PlainFile.{Attached}
-use Rattle.pg_plain.specs.Covers.{covers, is_below_limit}
+use Rattle.pg_plain.specs.Covers.{Fits, covers, is_below_limit}
 use Rattle.pg_object.specs.Object.{ObjectNow}
 use Rattle.pg_object.specs.Seals.{seal_for, AreSealed}
-use Rattle.pg_object.specs.Kept.{IsLaid, IsInside, IsSigned, IsKept}
+use Rattle.pg_object.specs.Kept.{IsInside, IsSigned, IsKept}
 use Rattle.pg_object.specs.Acts.{Acts}
 use Rattle.pg_object.specs.Checked.{is_validated, is_resident, takes_out, KeepsChecked}
 use Rattle.pg_object.proofs.KeepFacts.{keep_after}
@@ -130,6 +130,7 @@ does_parts hash old now regions e answer kept acts sound marked counted fates fe
     laid = kept.laid;
     inside = subst (λ n. All (IsInside n) regions.regions) (sym acts.sizes.pages) fewer.inside;
     signatures = subst (λ n. All (IsSigned hash n) old.blobs) (sym acts.sizes.page_size) kept.signatures;
+    fits = subst (λ n. All (λ (attached : Attached). Fits n attached.signature) old.blobs) (sym acts.sizes.page_size) kept.fits;
     few_blobs = kept.few_blobs;
   };
 }

@@ -22,9 +22,12 @@ use Rattle.pg_plain.specs.Calls.{reached, seat_of, signature_calls, page_calls, 
 use Rattle.pg_plain.specs.Steps.{read_or_fault, read_slice, read_signature}
 use Rattle.pg_object.specs.Object.{ObjectNow, seen}
 use Rattle.pg_object.specs.Kept.{IsKept}
-use Rattle.pg_object.specs.Acts.{Acts}
+use Rattle.pg_object.specs.Acts.{nothing_back, Acts}
+use Rattle.pg_object.proofs.RoomFacts.{gains_same}
 use Rattle.pg_object.specs.Writes.{end_reached}
 use Rattle.pg_object.specs.Reads.{HasSignature, HasNoSignature, unread_before, Looks, ReadBefore, ReadFailed}
+use Rattle.pg_object.specs.PagerCalls.{reads_made}
+use Rattle.pg_object.proofs.PagerCallFacts.{reads_are, reads_of_reads}
 use Rattle.pg_object.proofs.TellFacts.{tells_of}
 use Rattle.pg_object.proofs.KeepFacts.{resident_is}
 use Rattle.pg_object.proofs.CheckedFacts.{checked_quietly}
@@ -136,6 +139,7 @@ module _ (hash : Hash) (old : ObjectNow) (kept : IsKept hash old) (slice : ℕ) 
       pages = was.pages;
       pages_after = was.pages;
       outcome = 0;
+      few = omega arith;
       found = was.before;
       found_after = was.after;
       step =
@@ -145,8 +149,12 @@ module _ (hash : Hash) (old : ObjectNow) (kept : IsKept hash old) (slice : ℕ) 
       faults = was.faults;
       told = tells_of old.pages.cache.pager now.cache.pager (length (page_calls hash (seen old was.pages) (event.ReadSignature slice))) 0 (omega arith)
           (subst (λ (l : List ℕ). MadeCalls old.pages.cache.pager (replicate (length l) false) now.cache.pager) (sym (calls_are hash old slice range has was.pages)) was.made);
+      reads = reads_are (length (unread_before old.pages.cache range.at end)) (reads_made hash (seen old was.pages) (event.ReadSignature slice) 0) old.pages.cache.pager.reads now.cache.pager.reads
+          (sym (reads_of_reads (length (page_calls hash (seen old was.pages) (event.ReadSignature slice))) (page_calls hash (seen old was.pages) (event.ReadSignature slice)) (omega arith)
+          ∙ ap length (calls_are hash old slice range has was.pages))) was.reads;
       sizes = was.looks.sizes;
       room = room_stays old.regions;
+      gains = gains_same nothing_back old.regions;
     })
 
     -- the read of a page failed
@@ -161,6 +169,7 @@ module _ (hash : Hash) (old : ObjectNow) (kept : IsKept hash old) (slice : ℕ) 
           pages = was.pages;
           pages_after = was.pages;
           outcome = suc before;
+          few = omega arith;
           found = was.before;
           found_after = was.after;
           step =
@@ -169,6 +178,9 @@ module _ (hash : Hash) (old : ObjectNow) (kept : IsKept hash old) (slice : ℕ) 
               ∙ ap (λ o. (read_signature (seen old was.pages) slice o, seen old was.pages)) (sym failed);
           faults = was.faults;
           told = tells_of old.pages.cache.pager now.cache.pager (length (page_calls hash (seen old was.pages) (event.ReadSignature slice))) (suc before) (omega arith) was.made;
+          reads = reads_are (before + 1) (reads_made hash (seen old was.pages) (event.ReadSignature slice) (suc before)) old.pages.cache.pager.reads now.cache.pager.reads
+              (sym (reads_of_reads (suc before) (page_calls hash (seen old was.pages) (event.ReadSignature slice)) (omega arith) ∙ omega arith)) was.reads;
           sizes = was.looks.sizes;
           room = room_stays old.regions;
+          gains = gains_same nothing_back old.regions;
         })

@@ -1,6 +1,6 @@
 -- One page more of a write.
 use Rattle.std.proofs.Common.{◌≡◌, ℕ, zero, suc, ◌+◌, ◌-◌, ◌*◌, ◌/◌, ◌<◌, ◌≤◌, ◌==◌, Bool, true, false, List, [], ◌∷◌, ◌++◌, length, map, take, drop, replicate, Option, Some, None, refl, sym, ap, subst, ◌∙◌, arith, inl, inr, length-append}
-use Rattle.std.specs.Prelude.{◌||◌, ◌&&◌, ◌⊎◌, IsTrue, min, nat_le, MatchOption, MatchBool, Result, Ok, Err, is_err, is_some, slice_get, if◌then◌else◌}
+use Rattle.std.specs.Prelude.{◌||◌, ◌&&◌, ◌⊎◌, IsTrue, min, nat_le, IfSome, MatchOption, MatchBool, Result, Ok, Err, is_err, is_some, slice_get, if◌then◌else◌}
 use Rattle.std.specs.List.{range_with_len, flat_map}
 use Rattle.std.proofs.lemmas.Grind.{common_steps, flat_map-append}
 use Rattle.std.proofs.lemmas.Bool.{false≢true}
@@ -17,7 +17,7 @@ use Rattle.pg_cache.specs.Cache as cache
 use Rattle.pg_cache.specs.Finds.{Finds}
 use Rattle.pg_cache.specs.Gives.{ChangesPage, rewritten, WriteGives}
 use Rattle.pg_cache.specs.Gives as gives
-use Rattle.pg_cache.specs.Steps.{WritesThrough, ReadsAndWrites, Writes}
+use Rattle.pg_cache.specs.Steps.{ReadsSpare, WritesThrough, ReadsAndWrites, Writes}
 use Rattle.pg_cache.specs.declared.fault.PagerFault.{PagerFault}
 use Rattle.pg_cache.proofs.Laws.{write_finds, write_failed_finds}
 use Rattle.pg_cache.proofs.MadeLaws.{write_once_made, write_part_made}
@@ -29,7 +29,9 @@ use Rattle.pg_plain.specs.PlainFile.{Resident}
 use Rattle.pg_plain.specs.Calls.{is_whole}
 use Rattle.pg_plain.specs.Steps.{is_reached, written_pages, cleaned}
 use Rattle.pg_object.specs.Object.{resident_of}
-use Rattle.pg_object.specs.Writes.{offset_on, part_on, part_before, IsLess, Wrote, calls_on, calls_before, Went, Stopped, end_reached, WroteBefore, WroteAll, WroteSoFar}
+use Rattle.pg_object.specs.Writes.{offset_on, part_on, part_before, IsLess, Wrote, calls_on, calls_before, kinds_on, kinds_before, Went, Stopped, end_reached, WroteBefore, WroteAll, WroteSoFar}
+use Rattle.pg_object.specs.PagerCalls.{PagerCall, reached_calls, reads_of, ReadsAfter}
+use Rattle.pg_object.proofs.PagerCallFacts.{no_reads, one_read, reads_both, reads_are, take_whole, reads_append, reads_front}
 use Rattle.pg_object.proofs.SizeFacts.{each_size}
 use Rattle.pg_object.proofs.ReachFacts.{Reaches, reached_from, reached_here, not_reached, reached_other}
 use Rattle.pg_object.proofs.ContentFacts.{nothing_written, written_next}
@@ -113,22 +115,60 @@ range_more : (first n : ℕ) → range_with_len first (suc n) ≡ range_with_len
 range_more first zero = ap (λ m. m ∷ []) {x = first} {y = first + 0} (omega arith)
 range_more first (suc n) = ap (λ rest. first ∷ rest) (range_more (first + 1) n ∙ ap (λ m. range_with_len (first + 1) n ++ m ∷ []) {x = first + 1 + n} {y = first + suc n} (omega arith))
 
+pages_next : {X : Type 0} (f : ℕ → List X) (first page : ℕ) → first ≤ page → flat_map f (range_with_len first (page + 1 - first)) ≡ flat_map f (range_with_len first (page - first)) ++ f page
+pages_next f first page later =
+    ap (λ n. flat_map f (range_with_len first n)) {x = page + 1 - first} {y = suc (page - first)} (omega arith)
+    ∙ ap (flat_map f) (range_more first (page - first))
+    ∙ flat_map-append f (range_with_len first (page - first)) ((first + (page - first)) ∷ [])
+    ∙ ap (λ n. flat_map f (range_with_len first (page - first)) ++ flat_map f (n ∷ [])) {x = first + (page - first)} {y = page} (omega arith)
+    ∙ ap (λ l. flat_map f (range_with_len first (page - first)) ++ l) (append-nil (f page))
+
 pub calls_next : (c : CacheNow) (at count page : ℕ) → at / c.pager.page_size ≤ page → calls_before c at count (page + 1) ≡ calls_before c at count page ++ calls_on c at count page
-calls_next c at count page later =
-    ap (λ n. flat_map (calls_on c at count) (range_with_len (at / c.pager.page_size) n)) {x = page + 1 - at / c.pager.page_size} {y = suc (page - at / c.pager.page_size)} (omega arith)
-    ∙ ap (flat_map (calls_on c at count)) (range_more (at / c.pager.page_size) (page - at / c.pager.page_size))
-    ∙ flat_map-append (calls_on c at count) (range_with_len (at / c.pager.page_size) (page - at / c.pager.page_size)) ((at / c.pager.page_size + (page - at / c.pager.page_size)) ∷ [])
-    ∙ ap (λ n. calls_before c at count page ++ flat_map (calls_on c at count) (n ∷ [])) {x = at / c.pager.page_size + (page - at / c.pager.page_size)} {y = page} (omega arith)
-    ∙ ap (λ l. calls_before c at count page ++ l) (append-nil (calls_on c at count page))
+calls_next c at count page later = pages_next (calls_on c at count) (at / c.pager.page_size) page later
+
+pub kinds_next : (c : CacheNow) (at count page : ℕ) → at / c.pager.page_size ≤ page → kinds_before c at count (page + 1) ≡ kinds_before c at count page ++ kinds_on c at count page
+kinds_next c at count page later = pages_next (kinds_on c at count) (at / c.pager.page_size) page later
+
+-- they are as many
+kinds_one : (c : CacheNow) (at count page : ℕ) → length (kinds_on c at count page) ≡ length (calls_on c at count page)
+kinds_one c at count page = by_test (is_some (resident_page c page) || is_whole c.pager.page_size at count page)
+  where
+    by_test : (b : Bool) → length (reached_calls b page) ≡ length (if b then page ∷ [] else page ∷ page ∷ [])
+    by_test true = refl
+    by_test false = refl
+
+kinds_all : (c : CacheNow) (at count : ℕ) (pages : List ℕ) → length (flat_map (kinds_on c at count) pages) ≡ length (flat_map (calls_on c at count) pages)
+kinds_all c at count [] = refl
+kinds_all c at count (page ∷ pages) =
+    length-append (kinds_on c at count page) (flat_map (kinds_on c at count) pages)
+    ∙ ap (λ n. n + length (flat_map (kinds_on c at count) pages)) (kinds_one c at count page)
+    ∙ ap (λ n. length (calls_on c at count page) + n) (kinds_all c at count pages)
+    ∙ sym (length-append (calls_on c at count page) (flat_map (calls_on c at count) pages))
+
+pub kinds_many : (c : CacheNow) (at count page : ℕ) → length (kinds_before c at count page) ≡ length (calls_before c at count page)
+kinds_many c at count page = kinds_all c at count (range_with_len (at / c.pager.page_size) (page - at / c.pager.page_size))
 
 -- the calls for a page, by what the cache did: which of them failed
 pub record Made (old : CacheNow) (at count page : ℕ) (failed : Bool) (new : CacheNow) : Type 0 where
   -- how many succeeded before the last
   pub before : ℕ
   pub made : MadeCalls old.pager (replicate before false ++ failed ∷ []) new.pager
+  pub reads : ReadsAfter (reads_of (take (suc before) (kinds_on old at count page))) old.pager.reads new.pager.reads
   -- a call that failed is one of these, and where none did all were made
   pub here : slice_get (calls_on old at count page) before ≡ Some page
   pub all : failed ≡ false → length (calls_on old at count page) ≡ suc before
+
+-- a part of a page that is not resident: one read, whether it failed or the write behind it
+part_reads : (old new : CacheNow) (page at : ℕ) (bytes : List ℕ) (failed : Bool) → ReadsAndWrites old page at bytes failed new → ReadsAfter 1 old.pager.reads new.pager.reads
+part_reads old new page at bytes failed both = by_unread both.unread both.filled both.reads both.writes
+  where
+    by_unread : (unread : Bool) (filled : CacheNow) → ReadsSpare old page unread filled
+        → MatchBool unread ((failed ≡ true) × (new ≡ filled)) (IfSome filled.spare (λ held. WritesThrough filled page (written_over held.bytes at bytes) failed new))
+        → ReadsAfter 1 old.pager.reads new.pager.reads
+    by_unread true filled reads ends = one_read old.pager.reads new.pager.reads (subst (λ (c : CacheNow). Rose old.pager.reads c.pager.reads) (sym ends.1) reads.read.reads)
+    by_unread false filled reads writes =
+        let through = subst (λ o. IfSome o (λ (held : Held). WritesThrough filled page (written_over held.bytes at bytes) failed new)) reads.spare writes in
+        one_read old.pager.reads new.pager.reads (subst (λ n. Rose old.pager.reads n) (sym through.write.reads) reads.read.reads)
 
 made_calls : (old new : CacheNow) (at count page part_at : ℕ) (part : List ℕ) (failed : Bool)
     → is_whole old.pager.page_size at count page ≡ nat_le old.pager.page_size (length part) → Writes old page part_at part failed new → Made old at count page failed new
@@ -138,6 +178,7 @@ made_calls old new at count page part_at part failed whole writes = by_held (res
     once bytes e through = record {
       before = 0;
       made = write_once_made old new page bytes failed through;
+      reads = subst (λ b. ReadsAfter (reads_of (take 1 (reached_calls b page))) old.pager.reads new.pager.reads) (sym e) (no_reads old.pager.reads new.pager.reads through.write.reads);
       here = ap (λ b. slice_get (if b then page ∷ [] else page ∷ page ∷ []) 0) e;
       all = λ f. ap (λ b. length (if b then page ∷ [] else page ∷ page ∷ [])) e;
     }
@@ -149,12 +190,14 @@ made_calls old new at count page part_at part failed whole writes = by_held (res
         by_made (inl unread) = record {
           before = 0;
           made = subst (λ b. MadeCalls old.pager (b ∷ []) new.pager) (sym unread.0) unread.1;
+          reads = subst (λ b. ReadsAfter (reads_of (take 1 (reached_calls b page))) old.pager.reads new.pager.reads) (sym e) (part_reads old new page part_at part failed both);
           here = ap (λ b. slice_get (if b then page ∷ [] else page ∷ page ∷ []) 0) e;
           all = λ f. absurd (grind (arith, common_steps, f, unread.0));
         }
         by_made (inr done) = record {
           before = 1;
           made = done;
+          reads = subst (λ b. ReadsAfter (reads_of (take 2 (reached_calls b page))) old.pager.reads new.pager.reads) (sym e) (part_reads old new page part_at part failed both);
           here = ap (λ b. slice_get (if b then page ∷ [] else page ∷ page ∷ []) 1) e;
           all = λ f. ap (λ b. length (if b then page ∷ [] else page ∷ page ∷ [])) e;
         }
@@ -197,6 +240,8 @@ starts_wrote hash old at bytes known sound marked = record {
   went = record {
     made = subst (λ n. MadeCalls old.cache.pager (replicate (length (flat_map (calls_on old.cache at (length bytes)) (range_with_len (at / old.cache.pager.page_size) n))) false) old.cache.pager)
         {x = 0} {y = at / old.cache.pager.page_size - at / old.cache.pager.page_size} (omega arith) (no_calls old.cache.pager);
+    reads = subst (λ n. ReadsAfter (reads_of (flat_map (kinds_on old.cache at (length bytes)) (range_with_len (at / old.cache.pager.page_size) n))) old.cache.pager.reads old.cache.pager.reads)
+        {x = 0} {y = at / old.cache.pager.page_size - at / old.cache.pager.page_size} (omega arith) (no_reads old.cache.pager.reads old.cache.pager.reads refl);
     faults = refl;
   };
 }
@@ -208,6 +253,9 @@ starts_wrote hash old at bytes known sound marked = record {
     all_stay : (rs : List Resident) → rs ≡ map (cleaned old.cache.pager.page_size at 0) rs
     all_stay [] = refl
     all_stay (r ∷ rs) = ap (λ rest. r ∷ rest) (all_stay rs)
+
+same_number : (q page : ℕ) → (q == page) ≡ true → q ≡ page
+same_number q page e = grind (arith, common_steps, e)
 
 -- what stands and what was called before a page, and what the write of that page did
 module _ (hash : Hash) (old mid new : PagesNow) (at : ℕ) (bytes : List ℕ) (page : ℕ) (known : IsTrue (is_page_size old.cache.pager.page_size))
@@ -221,6 +269,18 @@ module _ (hash : Hash) (old mid new : PagesNow) (at : ℕ) (bytes : List ℕ) (p
       ap (λ b. if b || is_whole c.pager.page_size at (length bytes) page then page ∷ [] else page ∷ page ∷ []) (same page)
       ∙ ap (λ s. if is_some (resident_page old.cache page) || is_whole s at (length bytes) page then page ∷ [] else page ∷ page ∷ []) sizes.page_size
 
+  kinds_still : kinds_on mid.cache at (length bytes) page ≡ kinds_on old.cache at (length bytes) page
+  kinds_still =
+      ap (λ b. reached_calls (b || is_whole mid.cache.pager.page_size at (length bytes) page) page) (so_far.wrote.resident page)
+      ∙ ap (λ s. reached_calls (is_some (resident_page old.cache page) || is_whole s at (length bytes) page) page) so_far.wrote.sizes.page_size
+
+  -- the reads for the pages before, and so many calls for this one
+  reads_on : (before : ℕ) → ReadsAfter (reads_of (take (suc before) (kinds_on mid.cache at (length bytes) page))) mid.cache.pager.reads new.cache.pager.reads
+      → ReadsAfter (reads_of (kinds_before old.cache at (length bytes) page) + reads_of (take (suc before) (kinds_on old.cache at (length bytes) page))) old.cache.pager.reads new.cache.pager.reads
+  reads_on before reads = reads_both (reads_of (kinds_before old.cache at (length bytes) page)) (reads_of (take (suc before) (kinds_on old.cache at (length bytes) page)))
+      old.cache.pager.reads mid.cache.pager.reads new.cache.pager.reads so_far.went.reads
+      (subst (λ (calls : List PagerCall). ReadsAfter (reads_of (take (suc before) calls)) mid.cache.pager.reads new.cache.pager.reads) kinds_still reads)
+
   made_of : (failed : Bool) → Writes mid.cache page (offset_on old.cache.pager.page_size at page) (part_on old.cache.pager.page_size at bytes page) failed new.cache → Made mid.cache at (length bytes) page failed new.cache
   made_of failed writes = made_calls mid.cache new.cache at (length bytes) page (offset_on old.cache.pager.page_size at page) (part_on old.cache.pager.page_size at bytes page) failed
       (subst (λ s. is_whole s at (length bytes) page ≡ nat_le s (length (part_on old.cache.pager.page_size at bytes page))) (sym so_far.wrote.sizes.page_size) (whole_is old.cache.pager.page_size at bytes page known reaches)) writes
@@ -231,7 +291,7 @@ module _ (hash : Hash) (old mid new : PagesNow) (at : ℕ) (bytes : List ℕ) (p
     where
       found_resident : (q : ℕ) (b : Bool) → (q == page) ≡ b → is_some (resident_page new.cache q) ≡ is_some (resident_page mid.cache q)
       found_resident q true e =
-          let same : q ≡ page = grind (arith, common_steps, e) in
+          let same : q ≡ page = same_number q page e in
           ap (λ p. is_some (resident_page new.cache p)) same ∙ ap is_some gives.found.here
           ∙ some_map (rewritten (offset_on old.cache.pager.page_size at page) (part_on old.cache.pager.page_size at bytes page)) (resident_page mid.cache page)
           ∙ ap (λ p. is_some (resident_page mid.cache p)) (sym same)
@@ -239,7 +299,7 @@ module _ (hash : Hash) (old mid new : PagesNow) (at : ℕ) (bytes : List ℕ) (p
 
       changed_of : (q : ℕ) (b : Bool) → (q == page) ≡ b → is_reached old.cache.pager.page_size at (length (part_before old.cache.pager.page_size at bytes (page + 1))) q ≡ true → (marks_of new.marks q).validated ≡ None
       changed_of q true e reach =
-          let same : q ≡ page = grind (arith, common_steps, e) in
+          let same : q ≡ page = same_number q page e in
           let count = so_far.wrote.marked.count in
           let pages = so_far.wrote.sizes.pages in
           let long = length-gone mid.cache mid.marks in
@@ -253,7 +313,7 @@ module _ (hash : Hash) (old mid new : PagesNow) (at : ℕ) (bytes : List ℕ) (p
       others_of : (q : ℕ) (b : Bool) → (q == page) ≡ b → is_reached old.cache.pager.page_size at (length (part_before old.cache.pager.page_size at bytes (page + 1))) q ≡ false
           → is_some (resident_page old.cache q) ≡ true → (marks_of new.marks q).validated ≡ (marks_of old.marks q).validated
       others_of q true e apart resident =
-          let same : q ≡ page = grind (arith, common_steps, e) in
+          let same : q ≡ page = same_number q page e in
           absurd (false≢true (sym apart ∙ ap (is_reached old.cache.pager.page_size at (length (part_before old.cache.pager.page_size at bytes (page + 1)))) same ∙ reached_here old.cache.pager.page_size at bytes page known reaches))
       others_of q false e apart resident =
           ap (λ (ms : List Marks). (marks_of ms q).validated) marks
@@ -297,6 +357,14 @@ module _ (hash : Hash) (old mid new : PagesNow) (at : ℕ) (bytes : List ℕ) (p
             (ap (λ l. replicate (length (calls_before old.cache at (length bytes) page)) false ++ l) (replicate-append-replicate made.before 1 false)
             ∙ replicate-append-replicate (length (calls_before old.cache at (length bytes) page)) (made.before + 1) false ∙ ap (λ n. replicate n false) (sym count))
             (calls_made old.cache.pager mid.cache.pager new.cache.pager (replicate (length (calls_before old.cache at (length bytes) page)) false) (replicate made.before false ++ false ∷ []) so_far.went.made made.made);
+        reads =
+            let long : length (kinds_on old.cache at (length bytes) page) ≡ suc made.before =
+            kinds_one old.cache at (length bytes) page ∙ ap length (sym (resident_on mid.cache so_far.wrote.sizes so_far.wrote.resident)) ∙ made.all refl in
+            reads_are (reads_of (kinds_before old.cache at (length bytes) page) + reads_of (take (suc made.before) (kinds_on old.cache at (length bytes) page)))
+            (reads_of (kinds_before old.cache at (length bytes) (page + 1))) old.cache.pager.reads new.cache.pager.reads
+            (ap (λ (calls : List PagerCall). reads_of (kinds_before old.cache at (length bytes) page) + reads_of calls) (take_whole (suc made.before) (kinds_on old.cache at (length bytes) page) (omega arith))
+            ∙ sym (ap reads_of (kinds_next old.cache at (length bytes) page later) ∙ reads_append (kinds_before old.cache at (length bytes) page) (kinds_on old.cache at (length bytes) page)))
+            (reads_on made.before made.reads);
         faults = gives.faults ∙ so_far.went.faults;
       }
 
@@ -334,6 +402,15 @@ module _ (hash : Hash) (old mid new : PagesNow) (at : ℕ) (bytes : List ℕ) (p
                 (sym (append_both (replicate (length (calls_before old.cache at (length bytes) page)) false) (replicate made.before false) (true ∷ []))
                 ∙ ap (λ l. l ++ true ∷ []) (replicate-append-replicate (length (calls_before old.cache at (length bytes) page)) made.before false))
                 (calls_made old.cache.pager mid.cache.pager new.cache.pager (replicate (length (calls_before old.cache at (length bytes) page)) false) (replicate made.before false ++ true ∷ []) so_far.went.made made.made);
+            reads =
+                let long = kinds_many old.cache at (length bytes) page in
+                reads_are (reads_of (kinds_before old.cache at (length bytes) page) + reads_of (take (suc made.before) (kinds_on old.cache at (length bytes) page)))
+                (reads_of (take (suc (length (calls_before old.cache at (length bytes) page) + made.before)) (kinds_before old.cache at (length bytes) page ++ kinds_on old.cache at (length bytes) page)))
+                old.cache.pager.reads new.cache.pager.reads
+                (sym (ap (λ n. reads_of (take n (kinds_before old.cache at (length bytes) page ++ kinds_on old.cache at (length bytes) page)))
+                {x = suc (length (calls_before old.cache at (length bytes) page) + made.before)} {y = length (kinds_before old.cache at (length bytes) page) + suc made.before} (omega arith)
+                ∙ reads_front (kinds_before old.cache at (length bytes) page) (kinds_on old.cache at (length bytes) page) (suc made.before)))
+                (reads_on made.before made.reads);
             failed = slice_behind (calls_before old.cache at (length bytes) page) (calls_on old.cache at (length bytes) page) made.before ∙ ap (λ l. slice_get l made.before) (sym on) ∙ made.here;
             faults = subst (λ n. Rose n new.cache.pager.faults) so_far.went.faults gives.faults;
           }

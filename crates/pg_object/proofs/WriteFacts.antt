@@ -1,5 +1,5 @@
 -- A write is the plain step of its event.
-use Rattle.std.proofs.Common.{◌≡◌, ℕ, zero, suc, ◌+◌, ◌-◌, ◌*◌, ◌/◌, ◌<◌, ◌≤◌, Bool, true, false, List, [], ◌∷◌, ◌++◌, length, map, replicate, Option, Some, None, refl, sym, ap, subst, ◌∙◌, arith, not, inl, inr, ◌^◌}
+use Rattle.std.proofs.Common.{take, ◌≡◌, ℕ, zero, suc, ◌+◌, ◌-◌, ◌*◌, ◌/◌, ◌<◌, ◌≤◌, Bool, true, false, List, [], ◌∷◌, ◌++◌, length, map, replicate, Option, Some, None, refl, sym, ap, subst, ◌∙◌, arith, not, inl, inr, ◌^◌}
 use Rattle.std.specs.Prelude.{◌&&◌, ◌||◌, ◌⊎◌, IsTrue, IsSomeAnd, nat_le, nat_lt, is_some, slice_get, if◌then◌else◌}
 use Rattle.std.specs.List.{range_with_len, flat_map}
 use Rattle.std.specs.Option.{option_map}
@@ -23,25 +23,28 @@ use Rattle.pg_pages.specs.Marks.{Seal, marks_of}
 use Rattle.pg_pages.specs.Pages.{PagesNow}
 use Rattle.pg_regions.specs.Lookups.{record_of, bytes_of, is_shared, IsWriter}
 use Rattle.pg_regions.specs.RegionsNow.{RegionsNow, Room, spare}
-use Rattle.pg_plain.specs.PlainFile.{Resident}
-use Rattle.pg_plain.specs.Calls.{reached, is_whole, calls_of_page, page_calls, failed_page}
+use Rattle.pg_plain.specs.PlainFile.{Resident, is_resident}
+use Rattle.pg_plain.specs.Calls.{reached, is_whole, calls_of_page, page_calls, calls_made, failed_page}
 use Rattle.pg_plain.specs.Given.{unexecuted}
 use Rattle.pg_plain.specs.Content.{count_written}
 use Rattle.pg_plain.specs.Steps.{is_reached, written_pages, cleaned, written, write_by}
 use Rattle.pg_object.specs.Object.{ObjectNow, resident_of, seen}
 use Rattle.pg_object.specs.Kept.{IsKept}
-use Rattle.pg_object.specs.Acts.{has_failed, results, LeavesRoom, Acts}
+use Rattle.pg_object.specs.Acts.{has_failed, results, LeavesRoom, nothing_back, Acts}
 use Rattle.pg_object.specs.Checked.{is_validated, is_checked, takes_out, KeepsChecked}
 use Rattle.pg_object.specs.Checked as checked
 use Rattle.pg_object.specs.Strips.{Strips}
-use Rattle.pg_object.specs.Writes.{part_before, end_reached, Wrote, calls_on, calls_before, WroteBefore, WroteAll}
+use Rattle.pg_object.specs.Writes.{part_before, end_reached, Wrote, calls_on, calls_before, kinds_on, kinds_before, WroteBefore, WroteAll}
+use Rattle.pg_object.specs.PagerCalls.{PagerCall, reached_calls, pager_calls, reads_of, reads_made}
+use Rattle.pg_object.proofs.PagerCallFacts.{reads_are, reads_all, reads_within}
+use Rattle.pg_object.proofs.RoomFacts.{gains_same, gains_spare}
 use Rattle.pg_object.proofs.TellFacts.{tells_of}
 use Rattle.pg_object.proofs.KeepFacts.{resident_is}
 use Rattle.pg_object.proofs.CheckedFacts.{checked_is, checked_resident, checked_validated}
 use Rattle.pg_object.proofs.QuietFacts.{Does, does_nothing, room_stays}
 use Rattle.pg_object.proofs.ReachFacts.{Reaches, reached_true, reached_from, long_before}
 use Rattle.pg_object.proofs.SizeFacts.{each_size}
-use Rattle.pg_object.proofs.StepFacts.{calls_next, from_before_end}
+use Rattle.pg_object.proofs.StepFacts.{calls_next, kinds_next, kinds_many, from_before_end}
 use Rattle.pg_object.proofs.AfterFacts.{with_parts, kept_after, seals_less}
 
 iff : (a b : Bool) → (a ≡ true → b ≡ true) → (b ≡ true → a ≡ true) → a ≡ b
@@ -58,6 +61,7 @@ writes_past hash old at piece kept past = does_nothing hash old (event.Write at 
   uncalled = λ pages. ap (λ b. if b then [] else flat_map (calls_of_page (seen old pages) at (length (data_bytes piece))) (reached old.pages.cache.pager.page_size at (length (data_bytes piece)))) past;
   step = λ pages. ap (λ b. if b then (reply.PastEnd old.length, seen old pages) else write_by (failed_page (page_calls hash (seen old pages) (event.Write at piece)) 0) (seen old pages) at (data_bytes piece)) (sym past);
   room = room_stays old.regions;
+  gains = gains_same nothing_back old.regions;
   untaken = λ page. refl;
 })
 
@@ -180,6 +184,19 @@ all_calls hash old content at piece within =
     ∙ ap (λ f. flat_map f (reached old.pages.cache.pager.page_size at (length (data_bytes piece)))) (same_calls old content at (length (data_bytes piece)))
     ∙ ap (flat_map (calls_on old.pages.cache at (length (data_bytes piece)))) (same_reached old.pages.cache.pager.page_size at (length (data_bytes piece)))
 
+-- what each of them is
+same_kinds : (old : ObjectNow) (content : List (List ℕ)) (at count : ℕ)
+    → (λ page. reached_calls (is_resident (seen old content) page || is_whole old.pages.cache.pager.page_size at count page) page) ≡ kinds_on old.pages.cache at count
+same_kinds old content at count = fun_ext (λ page. ap (λ b. reached_calls (b || is_whole old.pages.cache.pager.page_size at count page) page) (resident_is old content page))
+
+all_kinds : (hash : Hash) (old : ObjectNow) (content : List (List ℕ)) (at : ℕ) (piece : Data) → nat_lt old.length (at + length (data_bytes piece)) ≡ false
+    → pager_calls hash (seen old content) (event.Write at piece) ≡ kinds_before old.pages.cache at (length (data_bytes piece)) (end_reached old.pages.cache.pager.page_size at (length (data_bytes piece)))
+all_kinds hash old content at piece within =
+    ap (λ b. if b then [] else flat_map (λ page. reached_calls (is_resident (seen old content) page || is_whole old.pages.cache.pager.page_size at (length (data_bytes piece)) page) page)
+    (reached old.pages.cache.pager.page_size at (length (data_bytes piece)))) within
+    ∙ ap (λ f. flat_map f (reached old.pages.cache.pager.page_size at (length (data_bytes piece)))) (same_kinds old content at (length (data_bytes piece)))
+    ∙ ap (flat_map (kinds_on old.pages.cache at (length (data_bytes piece)))) (same_reached old.pages.cache.pager.page_size at (length (data_bytes piece)))
+
 -- those for the pages before one and for that one come first
 range_split : (first m n : ℕ) → range_with_len first (m + n) ≡ range_with_len first m ++ range_with_len (first + m) n
 range_split first zero n = ap (λ k. range_with_len k (0 + n)) {x = first} {y = first + 0} (omega arith) ∙ ap (range_with_len (first + 0)) {x = 0 + n} {y = n} (omega arith)
@@ -187,14 +204,22 @@ range_split first (suc m) n =
     ap (range_with_len first) {x = suc m + n} {y = suc (m + n)} (omega arith)
     ∙ ap (λ rest. first ∷ rest) (range_split (first + 1) m n ∙ ap (λ k. range_with_len (first + 1) m ++ range_with_len k n) {x = first + 1 + m} {y = first + suc m} (omega arith))
 
+pages_first : {X : Type 0} (f : ℕ → List X) (first page end : ℕ) → first ≤ page → page < end → flat_map f (range_with_len first (page + 1 - first)) ≡ flat_map f (range_with_len first (page - first)) ++ f page
+    → flat_map f (range_with_len first (end - first)) ≡ (flat_map f (range_with_len first (page - first)) ++ f page) ++ flat_map f (range_with_len (page + 1) (end - (page + 1)))
+pages_first f first page end later before next =
+    ap (λ n. flat_map f (range_with_len first n)) {x = end - first} {y = page + 1 - first + (end - (page + 1))} (omega arith)
+    ∙ ap (flat_map f) (range_split first (page + 1 - first) (end - (page + 1)))
+    ∙ flat_map-append f (range_with_len first (page + 1 - first)) (range_with_len (first + (page + 1 - first)) (end - (page + 1)))
+    ∙ ap (λ l. l ++ flat_map f (range_with_len (first + (page + 1 - first)) (end - (page + 1)))) next
+    ∙ ap (λ n. (flat_map f (range_with_len first (page - first)) ++ f page) ++ flat_map f (range_with_len n (end - (page + 1)))) {x = first + (page + 1 - first)} {y = page + 1} (omega arith)
+
 calls_first : (c : CacheNow) (at count page end : ℕ) → at / c.pager.page_size ≤ page → page < end
     → calls_before c at count end ≡ (calls_before c at count page ++ calls_on c at count page) ++ flat_map (calls_on c at count) (range_with_len (page + 1) (end - (page + 1)))
-calls_first c at count page end later before =
-    ap (λ n. flat_map (calls_on c at count) (range_with_len (at / c.pager.page_size) n)) {x = end - at / c.pager.page_size} {y = page + 1 - at / c.pager.page_size + (end - (page + 1))} (omega arith)
-    ∙ ap (flat_map (calls_on c at count)) (range_split (at / c.pager.page_size) (page + 1 - at / c.pager.page_size) (end - (page + 1)))
-    ∙ flat_map-append (calls_on c at count) (range_with_len (at / c.pager.page_size) (page + 1 - at / c.pager.page_size)) (range_with_len (at / c.pager.page_size + (page + 1 - at / c.pager.page_size)) (end - (page + 1)))
-    ∙ ap (λ l. l ++ flat_map (calls_on c at count) (range_with_len (at / c.pager.page_size + (page + 1 - at / c.pager.page_size)) (end - (page + 1)))) (calls_next c at count page later)
-    ∙ ap (λ n. (calls_before c at count page ++ calls_on c at count page) ++ flat_map (calls_on c at count) (range_with_len n (end - (page + 1)))) {x = at / c.pager.page_size + (page + 1 - at / c.pager.page_size)} {y = page + 1} (omega arith)
+calls_first c at count page end later before = pages_first (calls_on c at count) (at / c.pager.page_size) page end later before (calls_next c at count page later)
+
+kinds_first : (c : CacheNow) (at count page end : ℕ) → at / c.pager.page_size ≤ page → page < end
+    → kinds_before c at count end ≡ (kinds_before c at count page ++ kinds_on c at count page) ++ flat_map (kinds_on c at count) (range_with_len (page + 1) (end - (page + 1)))
+kinds_first c at count page end later before = pages_first (kinds_on c at count) (at / c.pager.page_size) page end later before (kinds_next c at count page later)
 
 get_first : {X : Type 0} (xs ys : List X) (i : ℕ) (x : X) → slice_get xs i ≡ Some x → slice_get (xs ++ ys) i ≡ Some x
 get_first [] ys i x e = absurd (cc)
@@ -213,6 +238,10 @@ failed_within xs (suc k) page e = let inside = slice_get_within xs k page e in o
 failed_some : (xs : List ℕ) (outcome page : ℕ) → failed_page xs outcome ≡ Some page → has_failed outcome ≡ true
 failed_some xs zero page e = absurd (cc)
 failed_some xs (suc k) page e = refl
+
+failed_made : (xs : List ℕ) (outcome page : ℕ) → failed_page xs outcome ≡ Some page → (count : ℕ) → calls_made outcome count ≡ outcome
+failed_made xs zero page e count = absurd (cc)
+failed_made xs (suc k) page e count = refl
 
 failed_results : (xs : List ℕ) (outcome page : ℕ) → failed_page xs outcome ≡ Some page → (count : ℕ) → results 0 outcome ≡ results count outcome
 failed_results xs zero page e count = absurd (cc)
@@ -266,6 +295,10 @@ module _ (hash : Hash) (old : ObjectNow) (at : ℕ) (piece : Data) (pages : Page
         pages = content;
         pages_after = written_pages size at bytes 0 content;
         outcome = 0;
+        few = omega arith;
+        reads = reads_are (reads_of (kinds_before old.pages.cache at (length bytes) (end_reached size at (length bytes)))) (reads_made hash (seen old content) (event.Write at piece) 0)
+            old.pages.cache.pager.reads pages.cache.pager.reads
+            (sym (reads_all hash (seen old content) (event.Write at piece) ∙ ap reads_of (all_kinds hash old content at piece within))) all.went.reads;
         found = some_finds old.pages.cache kept.sound;
         found_after = all.wrote.found content (some_finds old.pages.cache kept.sound);
         step = ap (λ file. (reply.Written (length bytes), file)) (seen_written hash old at bytes pages regions (at / size) (end_reached size at (length bytes)) all.wrote strips same content)
@@ -275,6 +308,7 @@ module _ (hash : Hash) (old : ObjectNow) (at : ℕ) (piece : Data) (pages : Page
             (subst (λ n. MadeCalls old.pages.cache.pager (replicate n false) pages.cache.pager) (sym count) all.went.made);
         sizes = all.wrote.sizes;
         room = room_same old.regions regions strips.room;
+        gains = gains_spare nothing_back old.regions regions strips.room (ap (λ (now : RegionsNow). now.room) strips.others);
       }
 
   -- the data before the page that failed stand
@@ -314,6 +348,27 @@ module _ (hash : Hash) (old : ObjectNow) (at : ℕ) (piece : Data) (pages : Page
       calls = all_calls hash old (some_pages old.pages.cache) at piece within
           ∙ calls_first old.pages.cache at (length (data_bytes piece)) stop (end_reached old.pages.cache.pager.page_size at (length (data_bytes piece))) later before
 
+      -- the call that failed is for a page up to this one
+      within_firsts : some.stopped.outcome ≤ length (kinds_before old.pages.cache at (length (data_bytes piece)) stop ++ kinds_on old.pages.cache at (length (data_bytes piece)) stop)
+      within_firsts =
+          let few = failed_within (calls_before old.pages.cache at (length (data_bytes piece)) stop ++ calls_on old.pages.cache at (length (data_bytes piece)) stop) some.stopped.outcome stop some.stopped.failed in
+          let one = ap length (kinds_next old.pages.cache at (length (data_bytes piece)) stop later) in
+          let other = ap length (calls_next old.pages.cache at (length (data_bytes piece)) stop later) in
+          let many = kinds_many old.pages.cache at (length (data_bytes piece)) (stop + 1) in
+          omega arith
+
+      reads_first : reads_made hash (seen old (some_pages old.pages.cache)) (event.Write at piece) some.stopped.outcome
+          ≡ reads_of (take some.stopped.outcome (kinds_before old.pages.cache at (length (data_bytes piece)) stop ++ kinds_on old.pages.cache at (length (data_bytes piece)) stop))
+      reads_first =
+          ap (λ n. reads_of (take n (pager_calls hash (seen old (some_pages old.pages.cache)) (event.Write at piece))))
+          (failed_made (calls_before old.pages.cache at (length (data_bytes piece)) stop ++ calls_on old.pages.cache at (length (data_bytes piece)) stop) some.stopped.outcome stop some.stopped.failed
+          (length (page_calls hash (seen old (some_pages old.pages.cache)) (event.Write at piece))))
+          ∙ ap (λ (calls : List PagerCall). reads_of (take some.stopped.outcome calls)) (all_kinds hash old (some_pages old.pages.cache) at piece within
+          ∙ kinds_first old.pages.cache at (length (data_bytes piece)) stop (end_reached old.pages.cache.pager.page_size at (length (data_bytes piece))) later before)
+          ∙ reads_within (kinds_before old.pages.cache at (length (data_bytes piece)) stop ++ kinds_on old.pages.cache at (length (data_bytes piece)) stop)
+          (flat_map (kinds_on old.pages.cache at (length (data_bytes piece))) (range_with_len (stop + 1) (end_reached old.pages.cache.pager.page_size at (length (data_bytes piece)) - (stop + 1))))
+          some.stopped.outcome within_firsts
+
       failed : failed_page (page_calls hash (seen old (some_pages old.pages.cache)) (event.Write at piece)) some.stopped.outcome ≡ Some stop
       failed = ap (λ l. failed_page l some.stopped.outcome) calls
           ∙ failed_more (calls_before old.pages.cache at (length (data_bytes piece)) stop ++ calls_on old.pages.cache at (length (data_bytes piece)) stop)
@@ -325,6 +380,9 @@ module _ (hash : Hash) (old : ObjectNow) (at : ℕ) (piece : Data) (pages : Page
         pages = content;
         pages_after = written_pages size at (part_before size at bytes stop) 0 content;
         outcome = some.stopped.outcome;
+        few = failed_within (page_calls hash (seen old content) (event.Write at piece)) some.stopped.outcome stop failed;
+        reads = reads_are (reads_of (take some.stopped.outcome (kinds_before old.pages.cache at (length bytes) stop ++ kinds_on old.pages.cache at (length bytes) stop)))
+            (reads_made hash (seen old content) (event.Write at piece) some.stopped.outcome) old.pages.cache.pager.reads pages.cache.pager.reads (sym reads_first) some.stopped.reads;
         found = some_finds old.pages.cache kept.sound;
         found_after = some.wrote.found content (some_finds old.pages.cache kept.sound);
         step = ap (λ file. (reply.Short (stop * size - at), file)) (seen_written hash old at (part_before size at bytes stop) pages regions (at / size) stop some.wrote strips same content)
@@ -338,6 +396,7 @@ module _ (hash : Hash) (old : ObjectNow) (at : ℕ) (piece : Data) (pages : Page
             (failed_results (page_calls hash (seen old content) (event.Write at piece)) some.stopped.outcome stop failed (length (page_calls hash (seen old content) (event.Write at piece)))) some.stopped.made);
         sizes = some.wrote.sizes;
         room = room_same old.regions regions strips.room;
+        gains = gains_spare nothing_back old.regions regions strips.room (ap (λ (now : RegionsNow). now.room) strips.others);
       }
 
   -- how the writing of the pages ended: at which page, and with which reply

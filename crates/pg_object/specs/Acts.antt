@@ -1,11 +1,12 @@
 -- What a call of an object does: there are bytes of all pages with which it is the plain step of its event.
-use Rattle.std.specs.Prelude.{ℕ, zero, suc, ◌≡◌, ◌+◌, ◌≤◌, Bool, true, false, List, [], ◌∷◌, ◌++◌, length, replicate, Option, IfSome, IsSomeAnd}
+use Rattle.std.specs.Prelude.{ℕ, zero, suc, ◌≡◌, ◌+◌, ◌≤◌, Bool, true, false, List, [], ◌∷◌, ◌++◌, length, replicate, Option, None, Some, IfSome, IsSomeAnd}
 use Rattle.pg_digest.specs.Kinds.{Hash}
 use Rattle.cs_policy.specs.declared.access.Access.{Access}
 use Rattle.cs_policy.specs.declared.access.Access.TheVariants.{Read, Write, Execute}
 use Rattle.cs_policy.specs.declared.file.FileEvent.{FileEvent}
 use Rattle.cs_policy.specs.declared.file.FileEvent.TheVariants as event
 use Rattle.cs_policy.specs.declared.file.FileReply.{FileReply}
+use Rattle.cs_policy.specs.declared.file.FileReply.TheVariants as reply
 use Rattle.cs_blob.specs.Signature.{Signature}
 use Rattle.pg_io.specs.Calls.{count_after, first_failing}
 use Rattle.pg_io.specs.Pager.{ToldPages, FaultsAfter}
@@ -15,6 +16,7 @@ use Rattle.pg_regions.specs.RegionsNow.{RegionsNow, Room, spare}
 use Rattle.pg_plain.specs.Calls.{page_calls, calls_made}
 use Rattle.pg_plain.specs.Steps.{file_step}
 use Rattle.pg_object.specs.Object.{ObjectNow, seen}
+use Rattle.pg_object.specs.PagerCalls.{reads_made, ReadsAfter}
 
 -- ---- pager calls
 
@@ -54,14 +56,47 @@ pub record LeavesRoom (used : Room) (old new : RegionsNow) : Type 0 where
   pub records : (spare old).records ≤ (spare new).records + used.records
   pub copies : (spare old).copies ≤ (spare new).copies + used.copies
 
+-- the kinds of room that an event gives back
+pub record GivenBack : Type 0 where
+  pub regions : Bool
+  pub records : Bool
+  pub copies : Bool
+
+abbrev pub nothing_back : GivenBack
+nothing_back = record { regions = false; records = false; copies = false }
+
+abbrev pub all_back : GivenBack
+all_back = record { regions = true; records = true; copies = true }
+
+-- a page that leaves gives back the room of its records
+abbrev pub leaving_back : Option ℕ → GivenBack
+leaving_back None = nothing_back
+leaving_back (Some page) = record { regions = false; records = true; copies = false }
+
+-- by the reply: regions that go give back the room of all that they were given
+abbrev pub given_back : FileReply → GivenBack
+given_back reply.Dropped = all_back
+given_back (reply.DroppedAll count) = all_back
+given_back (reply.Given left noted) = leaving_back left
+given_back reply.Evicted = record { regions = false; records = true; copies = false }
+given_back _ = nothing_back
+
+-- How many of each kind there can be stays, and no more is left of a kind than was, unless room of that kind is given back.
+pub record GainsRoom (back : GivenBack) (old new : RegionsNow) : Type 0 where
+  pub room : new.room ≡ old.room
+  pub regions : back.regions ≡ false → (spare new).regions ≤ (spare old).regions
+  pub records : back.records ≡ false → (spare new).records ≤ (spare old).records
+  pub copies : back.copies ≡ false → (spare new).copies ≤ (spare old).copies
+
 -- ---- the call
 
 pub record Acts (hash : Hash) (old : ObjectNow) (e : FileEvent) (blob : Option Signature) (answer : FileReply) (new : ObjectNow) : Type 0 where
   -- the bytes of all pages, as the reads of the call found them, and after it
   pub pages : List (List ℕ)
   pub pages_after : List (List ℕ)
-  -- the number of the first pager call that failed, or 0
+  -- the number of the first pager call that failed, or 0: no event makes more calls than these
   pub outcome : ℕ
+  pub few : outcome ≤ length (page_calls hash (seen old pages) e)
   pub found : Finds old.pages.cache pages
   pub found_after : Finds new.pages.cache pages_after
   pub step : (answer, seen new pages_after) ≡ file_step hash (seen old pages) e blob outcome
@@ -70,6 +105,9 @@ pub record Acts (hash : Hash) (old : ObjectNow) (e : FileEvent) (blob : Option S
   -- where the pager tells, it is the first of the event's calls whose number is to fail
   pub told : IfSome old.pages.cache.pager.told (λ before. IsSomeAnd new.pages.cache.pager.told (λ now.
       Tells before (length (page_calls hash (seen old pages) e)) outcome now))
+  -- the reads among the calls up to that one were made
+  pub reads : ReadsAfter (reads_made hash (seen old pages) e outcome) old.pages.cache.pager.reads new.pages.cache.pager.reads
   -- the number of the file's pages, their size and the limit of resident ones stay
   pub sizes : KeepsSizes old.pages.cache new.pages.cache
   pub room : LeavesRoom (room_used e) old.regions new.regions
+  pub gains : GainsRoom (given_back answer) old.regions new.regions

@@ -26,7 +26,7 @@ use Rattle.pg_plain.specs.Verdict.{differs}
 use Rattle.pg_plain.specs.Given.{put_at, unexecuted}
 use Rattle.pg_object.specs.declared.take.Taken.{Taken}
 use Rattle.pg_object.specs.declared.take.Taken.TheVariants.{Failed, Denied, Ready}
-use Rattle.pg_object.specs.Acts.{LeavesRoom}
+use Rattle.pg_object.specs.Acts.{LeavesRoom, nothing_back, GainsRoom}
 use Rattle.pg_object.specs.Seals.{seal_for}
 
 -- ---- a page beside its slots
@@ -127,6 +127,7 @@ records_gone old (Some left) id p = if p == left && not (is_some (bytes_of old.c
 pub record Unmaps (old : RegionsNow) (left : Option ℕ) (new : RegionsNow) : Type 0 where
   pub records : (id p : ℕ) → record_of new.records id p ≡ records_gone old left id p
   pub others : new ≡ record old { records = new.records }
+  pub none : left ≡ None → new ≡ old
   pub room : KeepsRoom old new
   pub sound : IsSound new
 
@@ -158,6 +159,7 @@ pub record Copies (old : RegionsNow) (region : Region) (page : ℕ) (bytes : Lis
       ≡ (if is_some (bytes_of old.copies region.id page) then bytes_of old.copies id p else put_at region.id page bytes (bytes_of old.copies) id p)
   pub others : new ≡ record old { copies = new.copies }
   pub room : LeavesRoom (record { regions = 0; records = 0; copies = 1 }) old new
+  pub gains : GainsRoom nothing_back old new
   pub sound : IsSound new
 
 abbrev pub WritesTo : RegionsNow → Region → ℕ → List ℕ → RegionsNow → Type 0

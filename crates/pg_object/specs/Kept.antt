@@ -13,6 +13,7 @@ use Rattle.pg_cache.specs.Finds.{Finds}
 use Rattle.pg_pages.specs.Pages.{IsMarked}
 use Rattle.pg_regions.specs.RegionsNow as regions
 use Rattle.pg_plain.specs.PlainFile.{Attached}
+use Rattle.pg_plain.specs.Covers.{Fits}
 use Rattle.pg_plain.specs.Keep.{Keep}
 use Rattle.pg_object.specs.Object.{ObjectNow, seen}
 use Rattle.pg_object.specs.Seals.{AreSealed}
@@ -52,4 +53,6 @@ pub record IsKept (hash : Hash) (now : ObjectNow) : Type 0 where
   pub inside : All (IsInside now.pages.cache.pager.pages) now.regions.regions
   -- each attached signature is one of its slice, on a machine with pages of this size
   pub signatures : All (IsSigned hash now.pages.cache.pager.page_size) now.blobs
+  -- its slice begins with a page, and a page is a whole number of its hash pages: none of these is larger than a page
+  pub fits : All (λ attached. Fits now.pages.cache.pager.page_size attached.signature) now.blobs
   pub few_blobs : length now.blobs ≤ 64

@@ -4,6 +4,7 @@ pub mod Enters
 pub mod Kept
 pub mod Object
 pub mod Opened
+pub mod PagerCalls
 pub mod Reads
 pub mod Seals
 pub mod Strips

@@ -17,6 +17,7 @@ use Rattle.pg_plain.specs.Steps.{read_signature}
 use Rattle.pg_object.specs.declared.signatures.Unsigned.{Unsigned}
 use Rattle.pg_object.specs.declared.signatures.Unsigned.TheVariants.{NoSlices, NoSlice, NoImage}
 use Rattle.pg_object.specs.Object.{ObjectNow, seen}
+use Rattle.pg_object.specs.PagerCalls.{ReadsAfter}
 use Rattle.pg_object.specs.Writes.{end_reached}
 
 -- ---- where a signature lies
@@ -79,6 +80,7 @@ pub record ReadBefore (hash : Hash) (old : PagesNow) (at count page : ℕ) (byte
   pub read : bytes ≡ take (min count (page * old.cache.pager.page_size - at)) (drop at (concat pages))
   pub looks : Looks hash old new
   pub made : MadeCalls old.cache.pager (replicate (length (unread_before old.cache at page)) false) new.cache.pager
+  pub reads : ReadsAfter (length (unread_before old.cache at page)) old.cache.pager.reads new.cache.pager.reads
   pub faults : new.cache.pager.faults ≡ old.cache.pager.faults
 
 -- The read of this page failed, and none before it.
@@ -88,6 +90,7 @@ pub record ReadFailed (hash : Hash) (old : PagesNow) (at count page : ℕ) (new 
   pub after : Finds new.cache pages
   pub looks : Looks hash old new
   pub made : MadeCalls old.cache.pager (replicate (length (unread_before old.cache at page)) false ++ true ∷ []) new.cache.pager
+  pub reads : ReadsAfter (length (unread_before old.cache at page) + 1) old.cache.pager.reads new.cache.pager.reads
   pub faults : Rose old.cache.pager.faults new.cache.pager.faults
   pub unread : resident_page old.cache page ≡ None
   pub first : at / old.cache.pager.page_size ≤ page

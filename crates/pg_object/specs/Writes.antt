@@ -12,6 +12,7 @@ use Rattle.pg_plain.specs.Calls.{is_whole, failed_page}
 use Rattle.pg_plain.specs.Steps.{is_reached, written_pages, cleaned}
 use Rattle.pg_object.specs.Acts.{results}
 use Rattle.pg_object.specs.Object.{resident_of}
+use Rattle.pg_object.specs.PagerCalls.{PagerCall, reached_calls, reads_of, ReadsAfter}
 
 -- where on a page the data begin, and the part of the data that lies on it
 abbrev pub offset_on : ℕ → ℕ → ℕ → ℕ
@@ -64,8 +65,17 @@ abbrev pub calls_before : CacheNow → ℕ → ℕ → ℕ → List ℕ
 calls_before cache at count page =
     flat_map (calls_on cache at count) (range_with_len (at / cache.pager.page_size) (page - at / cache.pager.page_size))
 
+-- the same with what each call is
+abbrev pub kinds_on : CacheNow → ℕ → ℕ → ℕ → List PagerCall
+kinds_on cache at count page = reached_calls (is_some (resident_page cache page) || is_whole cache.pager.page_size at count page) page
+
+abbrev pub kinds_before : CacheNow → ℕ → ℕ → ℕ → List PagerCall
+kinds_before cache at count page =
+    flat_map (kinds_on cache at count) (range_with_len (at / cache.pager.page_size) (page - at / cache.pager.page_size))
+
 -- All calls for the pages before this one were made, and none failed.
 pub record Went (old : CacheNow) (at count page : ℕ) (new : CacheNow) : Type 0 where
+  pub reads : ReadsAfter (reads_of (kinds_before old at count page)) old.pager.reads new.pager.reads
   pub made : MadeCalls old.pager (replicate (length (calls_before old at count page)) false) new.pager
   pub faults : new.pager.faults ≡ old.pager.faults
 
@@ -73,6 +83,7 @@ pub record Went (old : CacheNow) (at count page : ℕ) (new : CacheNow) : Type 0
 pub record Stopped (old : CacheNow) (at count page : ℕ) (new : CacheNow) : Type 0 where
   pub outcome : ℕ
   pub made : MadeCalls old.pager (results 0 outcome) new.pager
+  pub reads : ReadsAfter (reads_of (take outcome (kinds_before old at count page ++ kinds_on old at count page))) old.pager.reads new.pager.reads
   pub failed : failed_page (calls_before old at count page ++ calls_on old at count page) outcome ≡ Some page
   pub faults : Rose old.pager.faults new.pager.faults
 

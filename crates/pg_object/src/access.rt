@@ -9,7 +9,7 @@ ghost use Rattle.pg_plain.specs.Steps.{seen_by};
 ghost use Rattle.pg_object.specs.Object.{seen};
 ghost use Rattle.pg_object.specs.Kept.{IsKept};
 ghost use Rattle.pg_object.specs.Acts.{Acts};
-ghost use Rattle.pg_object.specs.Checked.{KeepsChecked};
+ghost use Rattle.pg_object.specs.Checked.{KeepsChecked, LeavesChecked};
 
 use crate::object::Object;
 use cs_policy::{Bytes64, FileReply};
@@ -84,11 +84,12 @@ impl<P: Pager, D: Digester> Object<P, D> {
     /// and the page were found.
     ///
     /// The answer is `NotMapped` exactly where no record of the region and page permits writing, and all is then as
-    /// before.
+    /// before. No page that is checked changes.
     pub fn store(&mut self, id: u32, page: u64, at: u32, bytes: &Bytes64, resolve: u64) -> FileReply
         requires fits { at + length bytes.now ≤ self.old.pages.cache.pager.page_size }
         ensures acts { Acts D.hash self.old (event.Store id page at bytes.now resolve) None result self.new }
         ensures checked { KeepsChecked self.old (event.Store id page at bytes.now resolve) result self.new }
+        ensures elsewhere { LeavesChecked self.old self.new }
         ensures unhashed { self.new.pages.calls ≡ self.old.pages.calls }
         ensures kept { IsKept D.hash self.new }
     {

@@ -33,7 +33,8 @@ impl<P: Pager, D: Digester> Object<P, D> {
     /// The answer is `NoRegion` exactly where no such region has the page. A guarded process is `Denied` an access that
     /// breaks a rule, with the first rule that it breaks; another is `Given` it, with that rule. `PagerFault` comes only
     /// where a pager call failed, at its page. The regions, their records and copies and the list of resident pages stay
-    /// as they were unless the answer is `Given`. Pages are hashed for executions alone, and a checked page never.
+    /// as they were unless the answer is `Given`. A page is hashed only for an execution that breaks no rule which can be
+    /// told without its bytes, each of its hash pages once at most, and a checked page never.
     pub fn enter(
         &mut self,
         id: u32,

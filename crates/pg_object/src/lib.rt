@@ -16,7 +16,7 @@ mod signatures;
 mod take;
 mod write;
 
-pub use laws::checked_are_sealed;
+pub use laws::{calls_have_pages, checked_are_sealed};
 pub use object::Object;
 pub use opening::Room;
 pub use std::alloc::AllocError as NoMemory;
@@ -25,3 +25,5 @@ pub use std::alloc::AllocError as NoMemory;
 mod tests;
 #[cfg(test)]
 mod trial;
+#[cfg(test)]
+mod words;

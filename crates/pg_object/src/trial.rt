@@ -1,4 +1,20 @@
 //! Objects that are tried: calls on them as a table names them, and what they reply.
+//!
+//! A row of a table is a line, as `fetch 0 1 16380 4 = got 69 4`: a call, and behind ` = ` what it replies. The calls:
+//!
+//!     read SLICE               reads the signature of a slice
+//!     attach SLICE             reads it and attaches it
+//!     write AT BYTE COUNT      writes so many times the byte from a place of the file on
+//!     map ID PAGES PROT SHARE  adds a region of the first pages: `r`, `rw`, `rx` or `rwx`, `shared` or `private`
+//!     unmap ID                 drops a region
+//!     exit PID                 drops those of a process
+//!     guarded ID PAGE ACCESS   faults for `r`, `w` or `x`, for a process on which code signing is enforced
+//!     free ID PAGE ACCESS      the same for one on which it is not
+//!     debugged ID PAGE ACCESS  the same for one that is debugged
+//!     store ID PAGE AT BYTE    stores a byte
+//!     load ID PAGE AT COUNT    loads bytes
+//!     fetch ID PAGE AT COUNT   fetches bytes
+//!     evict PAGE               evicts a page
 
 ghost use Rattle.std.specs.Prelude.{◌+◌, ◌<◌, ◌≤◌, IfOk, IsTrue, vec_len};
 ghost use Rattle.pg_bytes.specs.PageSize.{is_page_size};
@@ -7,14 +23,13 @@ ghost use Rattle.pg_digest.specs.DigestLaws.{length-sha_hash};
 ghost use Rattle.pg_regions.specs.RegionsNow.{spare};
 ghost use Rattle.pg_object.specs.Kept.{IsLaid};
 
+use crate::words::{access, byte, flags, is_shared, number, prot, small, told_by};
 use crate::{Object, Room};
 use cs_blob::blob;
-use cs_policy::{
-    Access, Bytes64, Data, Denial, FileReply, Layout, ProcFlags, Refusal, Region, Seats, SliceSeat,
-};
+use cs_policy::{Bytes64, Data, FileReply, Layout, Refusal, Region, Seats, SliceSeat};
 use pg_bytes::Range;
 use pg_cache::Cache;
-use pg_digest::{Digest, Digester, HashKind, ShaDigester, digest_bytes};
+use pg_digest::{Digest, Digester, HashKind, ShaDigester};
 use pg_io::MemPager;
 use pg_pages::Pages;
 use std::alloc::Global;
@@ -42,148 +57,6 @@ impl Digester for Counting {
     fn hash(&mut self, kind: HashKind, bytes: &[u8]) -> Digest {
         self.seen.set(self.seen.get().wrapping_add(1));
         self.sha.hash(kind, bytes)
-    }
-}
-
-// A call on an object, and what is not told by a table's row is 0.
-#[derive(Clone, Copy, Debug)]
-pub(crate) enum Call {
-    ReadSignature(u32),
-    // Reads the signature of a slice and attaches it.
-    Attach(u32),
-    Write {
-        at: u64,
-        byte: u8,
-        count: u32,
-    },
-    AddRegion(Region),
-    DropRegion(u32),
-    DropPid(u32),
-    Enter {
-        id: u32,
-        page: u64,
-        access: Access,
-        flags: ProcFlags,
-    },
-    Store {
-        id: u32,
-        page: u64,
-        at: u32,
-        byte: u8,
-    },
-    Load {
-        id: u32,
-        page: u64,
-        at: u32,
-        count: u32,
-    },
-    Fetch {
-        id: u32,
-        page: u64,
-        at: u32,
-        count: u32,
-    },
-    Evict(u64),
-}
-
-// What a reply says. Bytes are told by the first and their number.
-#[derive(Clone, Copy, Debug, PartialEq, Eq)]
-pub(crate) enum Told {
-    NoSlices(Refusal),
-    NoSlice(u32),
-    NoImage(Refusal),
-    PagerFault(u64),
-    Read(usize),
-    Already(u32),
-    Overlap(u32),
-    Attached(u32),
-    Noted,
-    PastEnd(u64),
-    Short(u64),
-    Written(u64),
-    Added,
-    NoRegion(u32),
-    Dropped,
-    DroppedAll(u32),
-    Denied(Rule),
-    Given(Option<u64>, Option<Rule>),
-    NotMapped,
-    Stored,
-    Got(u8, usize),
-    NotResident,
-    Evicted,
-}
-
-// A rule that an access breaks, with SHA-256 digests.
-#[derive(Clone, Copy, Debug, PartialEq, Eq)]
-pub(crate) enum Rule {
-    PrivateCopy(u64),
-    Unsigned(u64),
-    BeyondLimit(u64),
-    WritableShared(u64, u32),
-    Mismatch(u64, u64, [u8; 32], [u8; 32]),
-    SealedWrite(u64),
-}
-
-fn sha256(digest: &Digest) -> [u8; 32] {
-    let mut bytes = [0; 32];
-    for (byte, own) in bytes.iter_mut().zip(digest_bytes(digest)) {
-        *byte = *own;
-    }
-    bytes
-}
-
-fn broken_rule(denial: &Denial) -> Rule {
-    match denial {
-        Denial::PrivateCopy { page } => Rule::PrivateCopy(*page),
-        Denial::Unsigned { page } => Rule::Unsigned(*page),
-        Denial::BeyondLimit { page } => Rule::BeyondLimit(*page),
-        Denial::WritableShared { page, region } => Rule::WritableShared(*page, *region),
-        Denial::Mismatch {
-            page,
-            slot,
-            found,
-            wanted,
-        } => Rule::Mismatch(*page, *slot, sha256(found), sha256(wanted)),
-        Denial::SealedWrite { page } => Rule::SealedWrite(*page),
-    }
-}
-
-fn count(bytes: &[u8]) -> (u8, usize) {
-    (bytes.first().copied().unwrap_or(0), bytes.len())
-}
-
-fn told_by(reply: &FileReply) -> Told {
-    match reply {
-        FileReply::NoSlices(refusal) => Told::NoSlices(*refusal),
-        FileReply::NoSlice { count } => Told::NoSlice(*count),
-        FileReply::NoImage(refusal) => Told::NoImage(*refusal),
-        FileReply::PagerFault { page } => Told::PagerFault(*page),
-        FileReply::Read { bytes } => Told::Read(bytes.bytes().len()),
-        FileReply::Already { blob } => Told::Already(*blob),
-        FileReply::Overlap { blob } => Told::Overlap(*blob),
-        FileReply::Attached { blob } => Told::Attached(*blob),
-        FileReply::Noted => Told::Noted,
-        FileReply::PastEnd { length } => Told::PastEnd(*length),
-        FileReply::Short { written } => Told::Short(*written),
-        FileReply::Written { count } => Told::Written(*count),
-        FileReply::Added => Told::Added,
-        FileReply::NoRegion { id } => Told::NoRegion(*id),
-        FileReply::Dropped => Told::Dropped,
-        FileReply::DroppedAll { count } => Told::DroppedAll(*count),
-        FileReply::Denied(denial) => Told::Denied(broken_rule(denial)),
-        FileReply::Given { victim, violation } => Told::Given(
-            *victim,
-            violation.as_ref().map(broken_rule),
-        ),
-        FileReply::NotMapped => Told::NotMapped,
-        FileReply::Stored => Told::Stored,
-        FileReply::Got { bytes } => {
-            let (first, length) = count(bytes.bytes());
-            Told::Got(first, length)
-        }
-        FileReply::NotResident => Told::NotResident,
-        FileReply::Evicted => Told::Evicted,
     }
 }
 
@@ -295,59 +168,87 @@ impl Trial {
         self.seen.get()
     }
 
-    pub(crate) fn run(&mut self, alloc: Global, call: Call) -> Result<Told, Fail> {
-        let reply = match call {
-            Call::ReadSignature(slice) => self.object.read_signature(alloc, slice)?.0,
-            Call::Attach(slice) => attach(&mut self.object, alloc, slice)?,
-            Call::Write { at, byte, count } => self.object.write(at, &Data::Fill { byte, count }),
-            Call::AddRegion(region) => self.map(region)?,
-            Call::DropRegion(id) => self.object.drop_region(id),
-            Call::DropPid(pid) => self.object.drop_pid(pid),
-            Call::Enter {
-                id,
-                page,
-                access,
-                flags,
-            } => self.fault(id, page, access, flags)?,
-            Call::Store { id, page, at, byte } => self.store(id, page, at, byte)?,
-            Call::Load {
-                id,
-                page,
-                at,
-                count,
-            } => self.load(id, page, at, count)?,
-            Call::Fetch {
-                id,
-                page,
-                at,
-                count,
-            } => self.fetch(id, page, at, count)?,
-            Call::Evict(page) => self.object.evict(page),
+    // Makes the call that a line names, and says what it replied.
+    pub(crate) fn run(&mut self, alloc: Global, line: &str) -> Result<String, Fail> {
+        let words: Vec<&str> = line.split_whitespace().collect(alloc)?;
+        let reply = match words.as_slice() {
+            [name, which] => self.call_on(alloc, name, which)?,
+            [name, one, two, three] => self.call_with(name, one, two, three)?,
+            [name, id, page, third, last] => self.call_through(name, id, page, third, last)?,
+            _ => return Err("line".into()),
         };
-        Ok(told_by(&reply))
+        told_by(alloc, &reply)
     }
 
-    fn map(&mut self, region: Region) -> Result<FileReply, Fail> {
-        let pages = self.object.file_pages();
-        if self.left == 0 || region.first > pages || region.pages > pages - region.first {
-            return Err("region".into());
+    fn call_on(&mut self, alloc: Global, name: &str, which: &str) -> Result<FileReply, Fail> {
+        match name {
+            "read" => Ok(self.object.read_signature(alloc, small(which)?)?.0),
+            "attach" => attach(&mut self.object, alloc, small(which)?),
+            "unmap" => Ok(self.object.drop_region(small(which)?)),
+            "exit" => Ok(self.object.drop_pid(small(which)?)),
+            "evict" => Ok(self.object.evict(number(which)?)),
+            _ => Err("call".into()),
         }
-        self.left -= 1;
-        Ok(self.object.add_region(region, 0))
     }
 
-    fn fault(
+    fn call_with(
         &mut self,
-        id: u32,
-        page: u64,
-        access: Access,
-        flags: ProcFlags,
+        name: &str,
+        one: &str,
+        two: &str,
+        three: &str,
     ) -> Result<FileReply, Fail> {
+        if name == "write" {
+            let piece = Data::Fill {
+                byte: byte(two)?,
+                count: small(three)?,
+            };
+            return Ok(self.object.write(number(one)?, &piece));
+        }
+        let flags = flags(name)?;
         if self.left == 0 {
             return Err("room".into());
         }
         self.left -= 1;
-        Ok(self.object.enter(id, page, access, flags, 0))
+        Ok(
+            self.object
+                .enter(small(one)?, number(two)?, access(three)?, flags, 0),
+        )
+    }
+
+    fn call_through(
+        &mut self,
+        name: &str,
+        id: &str,
+        page: &str,
+        third: &str,
+        last: &str,
+    ) -> Result<FileReply, Fail> {
+        let id = small(id)?;
+        let page = number(page)?;
+        match name {
+            "map" => self.map(id, page, third, last),
+            "store" => self.store(id, page, small(third)?, byte(last)?),
+            "load" => self.load(id, page, small(third)?, small(last)?),
+            "fetch" => self.fetch(id, page, small(third)?, small(last)?),
+            _ => Err("call".into()),
+        }
+    }
+
+    fn map(&mut self, id: u32, pages: u64, way: &str, share: &str) -> Result<FileReply, Fail> {
+        let region = Region {
+            id,
+            pid: id / 4096,
+            first: 0,
+            pages,
+            prot: prot(way)?,
+            shared: is_shared(share)?,
+        };
+        if self.left == 0 || pages > self.object.file_pages() {
+            return Err("region".into());
+        }
+        self.left -= 1;
+        Ok(self.object.add_region(region, 0))
     }
 
     fn store(&mut self, id: u32, page: u64, at: u32, byte: u8) -> Result<FileReply, Fail> {

@@ -1,9 +1,10 @@
-use Rattle.std.proofs.Common.{◌≡◌, ◌+◌, ◌≤◌, [], List, ℕ, None, length, subst, sym, ◌∙◌}
+use Rattle.std.proofs.Common.{refl, ◌≡◌, ◌+◌, ◌≤◌, [], List, ℕ, None, length, subst, sym, ◌∙◌}
 use Rattle.cs_policy.specs.declared.file.FileEvent.TheVariants as event
 use Rattle.cs_policy.specs.declared.file.FileReply.TheVariants as reply
 use Rattle.pg_plain.specs.PlainFile.{may_write}
 use Rattle.pg_object.specs.Object.{ObjectNow, object_of, seen}
-use Rattle.pg_object.proofs.AccessFacts.{stores_nothing, stores_copy, stores_page, stored_there, some_found}
+use Rattle.pg_object.proofs.AccessFacts.{stores_nothing, stores_copy, stores_page, stores_elsewhere, stored_there, some_found}
+use Rattle.pg_object.specs.Checked.{LeavesChecked}
 use Rattle.pg_object.proofs.QuietFacts.{Does}
 use Rattle.pg_object.proofs.object.Object.store.Goals as goal
 use Rattle.pg_object.proofs.object.Object.store.Goals.{then-is_some, else-is_some}
@@ -11,7 +12,7 @@ use Rattle.pg_object.proofs.object.Object.store.Goals.{then-is_some, else-is_som
 pub returns-then-not-may_write : goal.returns-then-not-may_write
 returns-then-not-may_write g c =
     let done = stores_nothing g.D.Digester.hash c.args.self.now c.may_write.ensures.kept c.args.id c.args.page c.args.at c.args.bytes.now c.args.resolve c.may_write.result c.may_write.ensures.answer c.if-not-may_write.true in
-    record { acts = done.acts; checked = done.checked; unhashed = done.unhashed; kept = done.kept }
+    record { acts = done.acts; checked = done.checked; elsewhere = λ q there. refl; unhashed = done.unhashed; kept = done.kept }
 
 pub put-requires-clause-resident : goal.put-requires-clause-resident
 put-requires-clause-resident g c =
@@ -58,5 +59,12 @@ returns g c =
           (stores_page hash old c.self.invariant c.args.id c.args.page c.args.at bytes c.args.resolve c.may_write.result is c.if-not-may_write.false
           (some_found c.copy.result _ c.copy.ensures.found ∙ sym c.is_some.ensures ∙ w.if-is_some.false) w.put.new.self fits w.put.ensures.gives w.put.ensures.marks w.put.ensures.marked w.put.ensures.calls))
     ] in
+    let left : LeavesChecked old c.if-is_some.self =
+    elim c.if-is_some.branch [
+      | then-is_some w ↦ subst (LeavesChecked old) (sym w.self-is) (λ q there. refl)
+      | else-is_some w ↦ subst (LeavesChecked old) (sym w.self-is)
+          (stores_elsewhere hash old c.self.invariant c.args.id c.args.page c.args.at w.bytes-else-is_some.result.now c.args.resolve c.may_write.result is c.if-not-may_write.false
+          (some_found c.copy.result _ c.copy.ensures.found ∙ sym c.is_some.ensures ∙ w.if-is_some.false) w.put.new.self w.put.ensures.gives)
+    ] in
     let done = subst (λ (o : ObjectNow). Does hash o (event.Store c.args.id c.args.page c.args.at c.args.bytes.now c.args.resolve) None reply.Stored c.if-is_some.self) c.self.view_is made in
-    record { acts = done.acts; checked = done.checked; unhashed = done.unhashed; kept = done.kept }
+    record { acts = done.acts; checked = done.checked; elsewhere = subst (λ (o : ObjectNow). LeavesChecked o c.if-is_some.self) c.self.view_is left; unhashed = done.unhashed; kept = done.kept }
