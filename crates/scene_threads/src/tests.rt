@@ -182,8 +182,7 @@ fn two_starts_in_either_order(rt: HostRuntime) -> Result<(), Fail> {
     assert_eq!(rt; text.as_str(), FIRST_STARTS);
     let (status, text) = run_words(&rt, &["s", "solo"], TWO_STARTS, &OpenGate)?;
     assert_eq!(rt; status, Status::Usage);
-    let usage = "usage: csrun SCENE | csrun solo SCENE | csrun gen N\n";
-    assert_eq!(rt; text.as_str(), usage);
+    assert_eq!(rt; text.as_str(), USAGE);
     Ok(())
 }
 
@@ -265,5 +264,36 @@ fn twenty_writes_beside_twenty_faults(rt: HostRuntime) -> Result<(), Fail> {
     assert_eq!(rt; seen.given.saturating_add(seen.denied), 20);
     let sums = format!(in alloc; "calls 43\ngiven {}\ndenied {}\n", seen.given, seen.denied)?;
     assert!(rt; text.ends_with(sums.as_str()), "{text}");
+    Ok(())
+}
+
+/// What is printed for words behind `gen`. The sums are those of a program that keeps the bytes of each page.
+const MADE: [(&str, Status, &str); 5] = [
+    (
+        "1",
+        Status::Done,
+        "events 8605\ncalls 4012\ngiven 1441\ndenied 1570\n",
+    ),
+    (
+        "1000",
+        Status::Done,
+        "events 8664\ncalls 4012\ngiven 1450\ndenied 1595\n",
+    ),
+    ("0", Status::Usage, USAGE),
+    ("1001", Status::Usage, USAGE),
+    ("01", Status::Usage, USAGE),
+];
+
+const USAGE: &str = "usage: csrun SCENE | csrun solo SCENE | csrun gen N\n";
+
+#[test]
+fn made_scenes_are_summed_up(rt: HostRuntime) -> Result<(), Fail> {
+    for (number, status, text) in MADE {
+        for _ in 0..2 {
+            let (ended, printed) = run_words(&rt, &["gen", number], TWO_STARTS, &OpenGate)?;
+            assert_eq!(rt; ended, status, "behind gen {number}");
+            assert_eq!(rt; printed.as_str(), text, "behind gen {number}");
+        }
+    }
     Ok(())
 }
