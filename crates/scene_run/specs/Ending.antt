@@ -132,7 +132,7 @@ Ends ending other before now = (other ≡ ending.status) × (now ≡ append_know
 
 -- ---- what a run that is done has printed
 
--- The text is the journal of such a history of the run's scripts from its opening.
+-- The text is the journal of a history of the run's scripts from its opening, of which this is true.
 pub record Prints (gives : Opening → List (List Call) → List Line → Type 0) (run : Run) (text : List ℕ) : Type 0 where
   pub history : List Line
   pub printed : text ≡ journal history (calls_in run.scripts)
