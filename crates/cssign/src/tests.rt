@@ -6,8 +6,8 @@ use cs_sign::cssign_main;
 use cs_verify::{verify, verify_text};
 use pg_bytes::Status;
 use pg_digest::ShaDigester;
-use pg_io::{MemFiles, MemSink};
-use scene_run::csrun_main;
+use pg_io::{MemFiles, MemSink, OpenGate};
+use scene_threads::csrun_main;
 use std::alloc::Global;
 use std::test::Fail;
 
@@ -105,7 +105,8 @@ fn signed_verified_listed_and_run(rt: HostRuntime) -> Result<(), Fail> {
         &[("B", &signed), ("T", &cache), ("s", SCENE.as_bytes())],
     )?;
     let mut out = MemSink::open(alloc, 4096, usize::MAX, Vec::new(alloc))?;
-    let status = csrun_main(alloc, &texts(alloc, &["s"])?, &mut named, &mut out);
+    let words = texts(alloc, &["s"])?;
+    let status = csrun_main(&rt, alloc, &words, &mut named, &mut out, &OpenGate);
     assert_eq!(rt; status, Status::Done);
     assert_eq!(rt; out.bytes(), JOURNAL.as_bytes());
     Ok(())
