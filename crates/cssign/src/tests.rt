@@ -79,15 +79,45 @@ fn texts(alloc: Global, words: &[&str]) -> Result<Vec<String>, Fail> {
     Ok(texts)
 }
 
-/// What the program writes for these words over one file, where it ends well.
-fn written(alloc: Global, words: &[&str], name: &str, bytes: &[u8]) -> Result<Vec<u8>, Fail> {
+/// How the program ends for these words over one file, and what it writes.
+fn ended(
+    alloc: Global,
+    words: &[&str],
+    name: &str,
+    bytes: &[u8],
+) -> Result<(Status, Vec<u8>), Fail> {
     let words = texts(alloc, words)?;
     let mut files = files(alloc, &[(name, bytes)])?;
     let mut out = MemSink::open(alloc, 16384, usize::MAX, Vec::new(alloc))?;
-    match cssign_main(alloc, &words, &mut files, &mut out) {
-        Status::Done => Ok(Vec::from_slice(alloc, out.bytes())?),
+    let status = cssign_main(alloc, &words, &mut files, &mut out);
+    Ok((status, Vec::from_slice(alloc, out.bytes())?))
+}
+
+/// What the program writes for these words over one file, where it ends well.
+fn written(alloc: Global, words: &[&str], name: &str, bytes: &[u8]) -> Result<Vec<u8>, Fail> {
+    match ended(alloc, words, name, bytes)? {
+        (Status::Done, written) => Ok(written),
         _ => Err(Fail::new("the run does not end well")),
     }
+}
+
+#[test]
+fn early_ends(rt: HostRuntime) -> Result<(), Fail> {
+    let alloc = rt.alloc();
+    let usage = "usage: cssign sign PATH IDENT 4|16 [PATH] | cssign cache PATH..\n";
+    let words: [(&[&str], Status, &str); 5] = [
+        (&["sign", "A", "a", "4"], Status::NotSealed, "cssign: refused mach.2.0.0\n"),
+        (&["sign", "A", "a", "8"], Status::Usage, usage),
+        (&["cache"], Status::Usage, usage),
+        (&["sign", "B", "a", "4"], Status::FileFault { item: 0 }, "cssign: cannot read item 0\n"),
+        (&["cache", "A"], Status::NotSealed, "cssign: item 0 not sealed\n"),
+    ];
+    for (words, status, text) in words {
+        let (ended, written) = ended(alloc, words, "A", &[0x41; 4096])?;
+        assert_eq!(rt; ended, status, "for {text:?}");
+        assert_eq!(rt; written.as_slice(), text.as_bytes());
+    }
+    Ok(())
 }
 
 #[test]
