@@ -155,14 +155,51 @@ fn take_passes<E: Drop>(shared: &BookShared<E>, seat: &mut BookSeat<E>, passes: 
     }
 }
 
+// Puts the entry that stands here at the place that is its stamp. Where it stands there, or its stamp is no place, the place
+// behind this one is answered, and else this one.
+fn put_one<E: Drop>(entries: &mut [Stamped<E>], here: usize) -> usize
+    ensures same { IsPermutation entries.old entries.new }
+    ensures len { length entries.new ≡ length entries.old }
+{
+    let count = entries.len();
+    if here >= count {
+        return here;
+    }
+    let place = entries[here].stamp;
+    if place == here as u64 || place >= count as u64 {
+        return here + 1;
+    }
+    entries.swap(here, place as usize);
+    here
+}
+
+// Puts each entry at the place that is its stamp, as far as stamps are places: each turn passes one by or puts one there.
+fn put_at_stamps<E: Drop>(entries: &mut [Stamped<E>])
+    ensures same { IsPermutation entries.old entries.new }
+    ensures len { length entries.new ≡ length entries.old }
+{
+    let mut here = 0;
+    for _ in 0..entries.len().saturating_mul(2) {
+        here = put_one(entries, here);
+    }
+}
+
+// Puts entries in the order of their stamps. Where stamps are places, the sort finds them in order and moves none.
+fn sort_by_stamps<E: Drop>(entries: &mut [Stamped<E>])
+    ensures same { IsPermutation entries.old entries.new }
+    ensures len { length entries.new ≡ length entries.old }
+    ensures sorted { IsNonDecreasingBy (λ e. e.stamp) entries.new }
+{
+    put_at_stamps(entries);
+    entries.sort_unstable_by_key(|entry| entry.stamp);
+}
+
 // The entries in the order of their stamps. It takes no memory.
 fn in_order<E: Drop>(mut entries: Vec<Stamped<E>>) -> Vec<Stamped<E>>
     ensures same { IsPermutation entries.items result.items }
     ensures sorted { IsNonDecreasingBy (λ e. e.stamp) result.items }
 {
-    entries
-        .as_mut_slice()
-        .sort_unstable_by_key(|entry| entry.stamp);
+    sort_by_stamps(entries.as_mut_slice());
     entries
 }
 
