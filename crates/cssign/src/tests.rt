@@ -106,11 +106,23 @@ fn early_ends(rt: HostRuntime) -> Result<(), Fail> {
     let alloc = rt.alloc();
     let usage = "usage: cssign sign PATH IDENT 4|16 [PATH] | cssign cache PATH..\n";
     let words: [(&[&str], Status, &str); 5] = [
-        (&["sign", "A", "a", "4"], Status::NotSealed, "cssign: refused mach.2.0.0\n"),
+        (
+            &["sign", "A", "a", "4"],
+            Status::NotSealed,
+            "cssign: refused mach.2.0.0\n",
+        ),
         (&["sign", "A", "a", "8"], Status::Usage, usage),
         (&["cache"], Status::Usage, usage),
-        (&["sign", "B", "a", "4"], Status::FileFault { item: 0 }, "cssign: cannot read item 0\n"),
-        (&["cache", "A"], Status::NotSealed, "cssign: item 0 not sealed\n"),
+        (
+            &["sign", "B", "a", "4"],
+            Status::FileFault { item: 0 },
+            "cssign: cannot read item 0\n",
+        ),
+        (
+            &["cache", "A"],
+            Status::NotSealed,
+            "cssign: item 0 not sealed\n",
+        ),
     ];
     for (words, status, text) in words {
         let (ended, written) = ended(alloc, words, "A", &[0x41; 4096])?;
