@@ -131,12 +131,19 @@ def most_memory(words: list, folder: Path) -> int:
     return int(text.split()[-1]) * 1024
 
 
-def main() -> int:
+def begun(tool: str) -> tuple[Path | None, int]:
+    """The built program, unless it or a tool is missing, and how many rounds are asked for."""
     program = Path("crates/csrun/out/csrun").resolve()
-    if not program.exists() or shutil.which("sha256sum") is None:
-        print("bench: csrun is not built, or sha256sum is missing; skipped")
+    if not program.exists() or shutil.which(tool) is None:
+        print(f"bench: csrun is not built, or {tool} is missing; skipped")
+        program = None
+    return program, int(sys.argv[1]) if len(sys.argv) > 1 else 9
+
+
+def main() -> int:
+    program, rounds = begun("sha256sum")
+    if program is None:
         return 0
-    rounds = int(sys.argv[1]) if len(sys.argv) > 1 else 9
     print(f"{'scene':>9} {'events':>7} {'ms':>7} {'events/s':>9} {'hashed':>9} {'sha256sum':>9} {'ratio':>6} {'wc -l':>6} {'memory':>10} {'held':>10}")
     found: dict[str, tuple[int, float]] = {}
     for name, make in SCENES.items():

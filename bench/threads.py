@@ -19,14 +19,13 @@ gained. The targets: `of scale` at least 0.85 where the work is hashing, and no 
 """
 import hashlib
 import os
-import shutil
 import subprocess
 import sys
 import tempfile
 import time
 from pathlib import Path
 
-from scenes import signed
+from scenes import begun, signed
 
 BASE = 0x10000000
 PROCESSORS = (1, 2, 4)
@@ -102,11 +101,9 @@ def scale(processors: int, rounds: int, folder: Path) -> float:
 
 
 def main() -> int:
-    program = Path("crates/csrun/out/csrun").resolve()
-    if not program.exists() or shutil.which("taskset") is None:
-        print("bench: csrun is not built, or taskset is missing; skipped")
+    program, rounds = begun("taskset")
+    if program is None:
         return 0
-    rounds = int(sys.argv[1]) if len(sys.argv) > 1 else 9
     print(f"{'scene':>10} {'processors':>10} {'threads ms':>10} {'solo ms':>8} {'gain':>5} {'scale':>6} {'of scale':>8}")
     for name, make in SCENES.items():
         with tempfile.TemporaryDirectory() as place:

@@ -27,7 +27,7 @@ fn summed<R: Threads + Wait + Sync, G: Gate + Sync>(
     ensures { IfOk result (λ text. PrintsMade sha_hash n text.items) }
 {
     let (scene, mut files) = made(alloc, n)?;
-    // No item of a made scene ends a run early: none but want of memory is left.
+    // An item that ended the run early would be answered as want of memory: tests show that none does.
     let Ok(opened) = open_items(alloc, &scene, &mut files) else {
         return Err(NoMemory);
     };
