@@ -1,9 +1,9 @@
 //! The file whose pages are timed: pages of zeros, and behind them a code directory that seals them.
 
-ghost use Rattle.std.specs.Prelude.{◌≡◌, ◌<◌, ◌≤◌, ◌^◌, [], IfOk, length};
+ghost use Rattle.std.specs.Prelude.{◌≡◌, ◌<◌, ◌≤◌, ◌^◌, [], IfOk, Some, length};
 ghost use Rattle.pg_digest.specs.Digests.{sha_hash};
 ghost use Rattle.pg_regions.specs.RegionsNow.{spare};
-ghost use Rattle.pg_object.specs.Kept.{IsLaid};
+ghost use Rattle.pg_object.specs.Kept.{IsLaid, slice_range};
 
 use crate::fail::BenchFail;
 use cs_blob::blob;
@@ -64,7 +64,8 @@ fn directory(alloc: Global) -> Result<Vec<u8>, NoMemory> {
 
 // One slice, the whole file, with its signature.
 fn layout(alloc: Global) -> Result<Layout, NoMemory>
-    ensures { IfOk result (IsLaid 1048576) }
+    ensures laid { IfOk result (IsLaid 1048576) }
+    ensures slice { IfOk result (λ layout. slice_range layout 0 ≡ Some (record { at = 0; len = 1048576 })) }
 {
     let seat = SliceSeat::Signed {
         slice: SLICE,

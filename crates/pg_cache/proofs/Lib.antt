@@ -12,3 +12,4 @@ pub mod QueueFacts
 pub mod StepFacts
 pub mod StoreFacts
 pub mod MadeLaws
+pub mod CalledLaws

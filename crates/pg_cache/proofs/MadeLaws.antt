@@ -1,5 +1,5 @@
 -- For the layer above: the pager calls that each call of a cache made, by whether each failed, in their order.
-use Rattle.std.proofs.Common.{◌≡◌, ℕ, List, [], ◌∷◌, Bool, true, false, Some, None, refl, ap, sym, subst, ◌∙◌, inl, inr}
+use Rattle.std.proofs.Common.{◌≡◌, ℕ, List, [], ◌∷◌, ◌++◌, Bool, true, false, Some, None, refl, ap, sym, subst, ◌∙◌, inl, inr}
 use Rattle.std.specs.Prelude.{◌⊎◌, Option, Result, Ok, Err, IfSome, IsSome, MatchOption, MatchBool, is_err, is_some, if◌then◌else◌}
 use Rattle.pg_io.specs.Pager.{MadeCalls}
 use Rattle.pg_io.proofs.CallLaws.{no_calls, read_made, write_made, calls_made}
@@ -8,7 +8,9 @@ use Rattle.pg_cache.specs.Held.{Held, fronted}
 use Rattle.pg_cache.specs.Cache.{CacheNow, resident_page, in_spare, at_hand, victim}
 use Rattle.pg_cache.specs.Steps.{ReadsSpare, WritesBack, Saves, WritesThrough, ReadsAndWrites, Peeks, Leaves, Enters, Evicts, TakesPlace, Brings, entered, entered_by}
 use Rattle.pg_cache.specs.declared.fault.PagerFault.{PagerFault}
+use Rattle.pg_io.specs.declared.pager_call.PagerCall.TheVariants.{Reads, Writes}
 use Rattle.pg_cache.proofs.GiveFacts.{hand_spare}
+use Rattle.pg_cache.proofs.CalledLaws.{called_both}
 
 -- ---- a page that is saved
 
@@ -87,13 +89,31 @@ evict_made old new page result evicts = made_of (resident_page old page) evicts
 pub write_once_made : (old new : CacheNow) (page : ℕ) (whole : List ℕ) (failed : Bool) → WritesThrough old page whole failed new → MadeCalls old.pager (failed ∷ []) new.pager
 write_once_made old new page whole failed w = write_made old.pager new.pager page failed whole w.write
 
+-- the read alone, which failed
+abbrev pub Unread : CacheNow → ℕ → Bool → CacheNow → Type 0
+Unread old page failed new = (failed ≡ true) × (MadeCalls old.pager (true ∷ []) new.pager × (new.pager.calls ≡ old.pager.calls ++ Reads page ∷ []))
+
+-- the read and the write
+abbrev pub ReadAndWritten : CacheNow → ℕ → Bool → CacheNow → Type 0
+ReadAndWritten old page failed new = MadeCalls old.pager (false ∷ failed ∷ []) new.pager × (new.pager.calls ≡ old.pager.calls ++ Reads page ∷ Writes page ∷ [])
+
 -- write of a part of another page: one read, and then one write unless the read failed
-pub write_part_made : (old new : CacheNow) (page at : ℕ) (bytes : List ℕ) (failed : Bool) → ReadsAndWrites old page at bytes failed new → ((failed ≡ true) × MadeCalls old.pager (true ∷ []) new.pager) ⊎ MadeCalls old.pager (false ∷ failed ∷ []) new.pager
+pub write_part_made : (old new : CacheNow) (page at : ℕ) (bytes : List ℕ) (failed : Bool) → ReadsAndWrites old page at bytes failed new → Unread old page failed new ⊎ ReadAndWritten old page failed new
 write_part_made old new page at bytes failed w = made_of w.unread w.filled w.reads w.writes
   where
     made_of : (unread : Bool) (filled : CacheNow) → ReadsSpare old page unread filled → MatchBool unread ((failed ≡ true) × (new ≡ filled)) (IfSome filled.spare (λ held. WritesThrough filled page (written_over held.bytes at bytes) failed new))
-        → ((failed ≡ true) × MadeCalls old.pager (true ∷ []) new.pager) ⊎ MadeCalls old.pager (false ∷ failed ∷ []) new.pager
-    made_of true filled r s = inl (s.0, subst (λ (c : CacheNow). MadeCalls old.pager (true ∷ []) c.pager) (sym s.1) (read_made old.pager filled.pager page true r.bytes r.read))
+        → Unread old page failed new ⊎ ReadAndWritten old page failed new
+    made_of true filled r s =
+        inl (
+          s.0,
+          (
+            subst (λ (c : CacheNow). MadeCalls old.pager (true ∷ []) c.pager) (sym s.1) (read_made old.pager filled.pager page true r.bytes r.read),
+            ap (λ (c : CacheNow). c.pager.calls) s.1 ∙ r.read.calls,
+          ),
+        )
     made_of false filled r s =
         let w = subst (λ o. IfSome o (λ held. WritesThrough filled page (written_over held.bytes at bytes) failed new)) r.spare s in
-        inr (calls_made old.pager filled.pager new.pager (false ∷ []) (failed ∷ []) (read_made old.pager filled.pager page false r.bytes r.read) (write_made filled.pager new.pager page failed (written_over r.bytes at bytes) w.write))
+        inr (
+          calls_made old.pager filled.pager new.pager (false ∷ []) (failed ∷ []) (read_made old.pager filled.pager page false r.bytes r.read) (write_made filled.pager new.pager page failed (written_over r.bytes at bytes) w.write),
+          called_both old.pager filled.pager new.pager (Reads page ∷ []) (Writes page ∷ []) r.read.calls w.write.calls,
+        )

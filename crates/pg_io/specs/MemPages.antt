@@ -1,6 +1,8 @@
 -- Pages that stand in memory.
 use Rattle.std.specs.Prelude.{ℕ, zero, suc, ◌-◌, ◌*◌, ◌/◌, Bool, List, [], ◌∷◌, ◌++◌, length, take, drop, replicate, Some, if◌then◌else◌}
 use Rattle.std.specs.Int.{div_ceil}
+use Rattle.pg_io.specs.declared.pager_call.PagerCall.{PagerCall}
+use Rattle.pg_io.specs.declared.pager_call.PagerCall.TheVariants.{Reads, Writes}
 use Rattle.pg_io.specs.Calls.{next_count, is_to_fail}
 use Rattle.pg_io.specs.Pager.{PagerNow}
 use Rattle.pg_io.specs.PageBytes.{written_over}
@@ -21,6 +23,8 @@ pub record MemPagerNow : Type 0 where
   pub faults : ℕ
   -- how many reads were made
   pub reads : ℕ
+  -- the calls that were made, one after another
+  pub calls : List PagerCall
 
 -- how many pages of this size so many bytes reach
 abbrev pub pages_reached : ℕ → ℕ → ℕ
@@ -48,8 +52,13 @@ abbrev pub faults_after : MemPagerNow → ℕ
 faults_after pager = if call_fails pager then next_count pager.faults else pager.faults
 
 -- the pager after a read of a page
-abbrev pub after_page_read : MemPagerNow → MemPagerNow
-after_page_read pager = record pager { made = next_count pager.made; faults = faults_after pager; reads = next_count pager.reads }
+abbrev pub after_page_read : ℕ → MemPagerNow → MemPagerNow
+after_page_read page pager = record pager {
+  made = next_count pager.made;
+  faults = faults_after pager;
+  reads = next_count pager.reads;
+  calls = pager.calls ++ Reads page ∷ [];
+}
 
 -- the pager after a write of these bytes to a page: where it is to fail, the page is as it was
 abbrev pub after_page_write : ℕ → List ℕ → MemPagerNow → MemPagerNow
@@ -57,6 +66,7 @@ after_page_write page from pager = record pager {
   bytes = if call_fails pager then pager.bytes else written_over pager.bytes (page * pager.page_size) from;
   made = next_count pager.made;
   faults = faults_after pager;
+  calls = pager.calls ++ Writes page ∷ [];
 }
 
 -- what a pager in memory shows
@@ -67,4 +77,5 @@ shown pager = record {
   told = Some (record { holds = pages_of pager.page_size pager.bytes; made = pager.made; fails = pager.fails });
   faults = pager.faults;
   reads = pager.reads;
+  calls = pager.calls;
 }

@@ -1,7 +1,9 @@
 -- What is known of a file's pages behind a pager.
-use Rattle.std.specs.Prelude.{ℕ, ◌≡◌, List, length, All, Bool, false, MatchBool, Option, Some, IfSome, IsSomeAnd, slice_get, slice_set, if◌then◌else◌}
+use Rattle.std.specs.Prelude.{ℕ, ◌≡◌, List, [], ◌∷◌, ◌++◌, length, All, Bool, false, MatchBool, Option, Some, IfSome, IsSomeAnd, slice_get, slice_set, if◌then◌else◌}
 use Rattle.std.specs.Option.{option_map}
 use Rattle.pg_bytes.specs.Counts.{Rose}
+use Rattle.pg_io.specs.declared.pager_call.PagerCall.{PagerCall}
+use Rattle.pg_io.specs.declared.pager_call.PagerCall.TheVariants.{Reads, Writes}
 use Rattle.pg_io.specs.Calls.{next_count, is_to_fail, count_after, outcomes}
 
 -- what a pager that tells its content shows
@@ -25,6 +27,8 @@ pub record PagerNow : Type 0 where
   pub faults : ℕ
   -- how many reads were made
   pub reads : ℕ
+  -- the calls that were made, one after another
+  pub calls : List PagerCall
 
 -- the pages that are told are as many as there are, and each is whole
 abbrev pub TellsWhole : PagerNow → Type 0
@@ -51,6 +55,7 @@ pub record IsRead (old : PagerNow) (page : ℕ) (failed : Bool) (bytes : List �
   pub pages : new.pages ≡ old.pages
   pub page_size : new.page_size ≡ old.page_size
   pub reads : Rose old.reads new.reads
+  pub calls : new.calls ≡ old.calls ++ Reads page ∷ []
   pub faults : FaultsAfter failed old.faults new.faults
   pub outcome : IfSome old.told (λ told. failed ≡ next_fails told)
   pub content : IfSome old.told (λ told. failed ≡ false → slice_get told.holds page ≡ Some bytes)
@@ -61,6 +66,7 @@ pub record IsWrite (old : PagerNow) (page : ℕ) (failed : Bool) (bytes : List �
   pub pages : new.pages ≡ old.pages
   pub page_size : new.page_size ≡ old.page_size
   pub reads : new.reads ≡ old.reads
+  pub calls : new.calls ≡ old.calls ++ Writes page ∷ []
   pub faults : FaultsAfter failed old.faults new.faults
   pub outcome : IfSome old.told (λ told. failed ≡ next_fails told)
   pub told : new.told ≡ option_map (λ told. if failed then after_call told else with_page page bytes told) old.told

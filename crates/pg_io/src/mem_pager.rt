@@ -1,4 +1,4 @@
-ghost use Rattle.std.specs.Prelude.{◌≡◌, ◌+◌, ◌-◌, ◌<◌, ◌≤◌, ◌++◌, IfOk, IsTrue, is_err, if◌then◌else◌, vec_len, length, take, drop, replicate};
+ghost use Rattle.std.specs.Prelude.{◌≡◌, ◌+◌, ◌-◌, ◌<◌, ◌≤◌, ◌++◌, [], ◌∷◌, IfOk, IsTrue, is_err, if◌then◌else◌, vec_len, length, take, drop, replicate};
 ghost use Rattle.pg_io.specs.Calls.{next_count, is_to_fail};
 ghost use Rattle.pg_io.specs.PageBytes.{is_page_size};
 ghost use Rattle.pg_io.specs.Pager.{FaultsAfter, IsRead, IsWrite};
@@ -7,8 +7,10 @@ ghost use Rattle.pg_io.specs.MemPagesLaws.{shown-TellsWhole};
 
 use crate::NoMemory;
 use crate::calls::Calls;
+use crate::log::Made;
 use crate::page_buffer::put_bytes;
 use crate::pager::Pager;
+use crate::pager_call::PagerCall;
 use crate::sink::Failed;
 use std::marker::Model;
 
@@ -21,6 +23,7 @@ pub struct MemPager {
     calls: Calls,
     faults: u64,
     reads: u64,
+    log: Made,
 }
 
 impl Model for MemPager {
@@ -38,6 +41,7 @@ impl Model for MemPager {
       fails = pager.calls.fails.items;
       faults = pager.faults;
       reads = pager.reads;
+      calls = pager.log;
     } };
 
     ghost invariant = { λ pager. IsTrue (is_page_size pager.page_size) };
@@ -56,6 +60,7 @@ impl MemPager {
           fails = fails.items;
           faults = 0;
           reads = 0;
+          calls = [];
         }) }
     {
         let length = bytes.len();
@@ -66,6 +71,7 @@ impl MemPager {
             calls: Calls::new(fails),
             faults: 0,
             reads: 0,
+            log: Made::none(),
         })
     }
 
@@ -76,17 +82,19 @@ impl MemPager {
         self.length
     }
 
-    // Counts a call, and says whether it is to fail.
-    fn call_fails(&mut self) -> bool
+    // Counts this call, and says whether it is to fail.
+    fn call_fails(&mut self, call: PagerCall) -> bool
         ensures fails { result ≡ is_to_fail self.old.made self.old.fails }
         ensures faults { FaultsAfter result self.old.faults self.new.faults }
         ensures counts { self.new ≡ record self.old {
           made = next_count self.old.made;
           faults = if result then next_count self.old.faults else self.old.faults;
+          calls = self.old.calls ++ call ∷ [];
         } }
     {
         let fails = self.calls.next_fails();
         self.calls.count();
+        self.log = self.log.and(call);
         if fails {
             self.faults = self.faults.saturating_add(1);
         }
@@ -121,10 +129,10 @@ impl Pager for MemPager {
         requires inside { page < (shown self.old).pages }
         requires whole { length into.old ≡ self.old.page_size }
         ensures read { IsRead (shown self.old) page (is_err result) into.new (shown self.new) }
-        ensures after { self.new ≡ after_page_read self.old }
+        ensures after { self.new ≡ after_page_read page self.old }
     {
         self.reads = self.reads.saturating_add(1);
-        if self.call_fails() {
+        if self.call_fails(PagerCall::Reads { page }) {
             return Err(Failed);
         }
         let page_size = self.page_size as usize;
@@ -139,7 +147,7 @@ impl Pager for MemPager {
         ensures wrote { IsWrite (shown self.old) page (is_err result) from.now (shown self.new) }
         ensures after { self.new ≡ after_page_write page from.now self.old }
     {
-        if self.call_fails() {
+        if self.call_fails(PagerCall::Writes { page }) {
             return Err(Failed);
         }
         let at = page as usize * self.page_size as usize;

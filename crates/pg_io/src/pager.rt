@@ -7,8 +7,8 @@ use crate::sink::Failed;
 /// The pages of one file, which are read and written whole. They have one size, and page 0 is the first.
 pub trait Pager: Drop {
     /// What is known of the pager: how many pages it has and of what size, what they hold and which calls are to
-    /// fail where that is told, and the counts of failed calls and of reads. A count stands still once it is
-    /// 2^64 - 1.
+    /// fail where that is told, the counts of failed calls and of reads, and the calls that were made, one after
+    /// another. A count stands still once it is 2^64 - 1.
     ghost shows: { Self → PagerNow };
 
     /// How many pages there are. No call changes it.

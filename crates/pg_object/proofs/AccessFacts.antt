@@ -31,6 +31,8 @@ use Rattle.pg_plain.specs.PlainFile.{PlainFile, has_record, may_read, may_write,
 use Rattle.pg_plain.specs.Steps.{put_copy, put_page, stored, looked_at, seen_by}
 use Rattle.pg_plain.specs.Keep.{Keep}
 use Rattle.pg_plain.proofs.FewerFacts.{writes_has}
+use Rattle.pg_io.specs.declared.pager_call.PagerCall.{PagerCall}
+use Rattle.pg_cache.proofs.CalledLaws.{called_none}
 use Rattle.pg_object.specs.Object.{ObjectNow, seen}
 use Rattle.pg_object.specs.Kept.{IsInside, IsKept}
 use Rattle.pg_object.specs.Acts.{LeavesRoom, nothing_back, Acts}
@@ -168,6 +170,7 @@ store_page_acts hash old now id page at bytes resolve kept permitted none inside
       ∙ ap (λ (b : Bool). store_by b (seen old pages) (stored (seen old pages) id page at bytes)) (sym permitted);
   faults = ap (λ (c : CacheNow). c.pager.faults) gives.after;
   told = uncalled_tells old.pages.cache.pager now.cache.pager [] (ap (λ (c : CacheNow). c.pager) gives.after) refl;
+  calls = ap (λ (c : CacheNow). c.pager.calls) gives.after ∙ called_none old.pages.cache.pager;
   reads = no_reads old.pages.cache.pager.reads now.cache.pager.reads (ap (λ (c : CacheNow). c.pager.reads) gives.after);
   sizes = record {
     limit = ap (λ (c : CacheNow). c.limit) gives.after;

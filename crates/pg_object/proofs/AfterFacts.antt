@@ -15,7 +15,7 @@ use Rattle.pg_regions.specs.RegionsNow.{RegionsNow, IsSound}
 use Rattle.pg_plain.specs.PlainFile.{Attached}
 use Rattle.pg_plain.specs.Covers.{Fits, covers, is_below_limit}
 use Rattle.pg_object.specs.Object.{ObjectNow, object_of}
-use Rattle.pg_object.specs.Seals.{seal_for, AreSealed}
+use Rattle.pg_object.specs.Seals.{seal_for, MarksAgree}
 use Rattle.pg_object.specs.Kept.{IsInside, IsSigned, IsKept}
 use Rattle.pg_object.specs.Acts.{Acts}
 use Rattle.pg_object.specs.Writes.{IsLess}
@@ -38,7 +38,7 @@ signs_still old pages regions page seal sizes signs = subst (λ s. Signs old.blo
 module _ (hash : Hash) (old : ObjectNow) (pages : PagesNow) (regions : RegionsNow) (e : FileEvent) (answer : FileReply)
     (kept : IsKept hash old) (acts : Acts hash old e None answer (with_parts old pages regions)) where
   pub kept_after : cache.IsSound pages.cache → IsMarked hash pages.cache pages.marks → IsSound regions → regions.page ≡ old.regions.page → regions.regions ≡ old.regions.regions
-      → AreSealed (with_parts old pages regions) → IsKept hash (with_parts old pages regions)
+      → MarksAgree (with_parts old pages regions) → IsKept hash (with_parts old pages regions)
   kept_after sound marked regions_sound page same seals = record {
     keep = keep_after hash old (with_parts old pages regions) e None answer kept acts tt;
     sound = sound;
@@ -56,11 +56,11 @@ module _ (hash : Hash) (old : ObjectNow) (pages : PagesNow) (regions : RegionsNo
 
 -- ---- marks that say less
 
-module _ (old : ObjectNow) (pages : PagesNow) (regions : RegionsNow) (sizes : KeepsSizes old.pages.cache pages.cache) (seals : AreSealed old)
+module _ (old : ObjectNow) (pages : PagesNow) (regions : RegionsNow) (sizes : KeepsSizes old.pages.cache pages.cache) (seals : MarksAgree old)
     (less : (page : ℕ) → IsLess (marks_of old.pages.marks page) (marks_of pages.marks page)) where
   pub seals_less : ((page : ℕ) → is_some (resident_page pages.cache page) ≡ false → (is_some (resident_page old.pages.cache page) ≡ false) ⊎ ((marks_of pages.marks page).writable ≡ false))
       → ((page id : ℕ) → IsWriter regions.regions regions.records page id → IsWriter old.regions.regions old.regions.records page id)
-      → AreSealed (with_parts old pages regions)
+      → MarksAgree (with_parts old pages regions)
   seals_less resident writers = record {
     signed = λ page seal e. signs_still old pages regions page seal sizes (seals.signed page seal ((less page).validated seal e));
     unmapped = λ page none. by_mark page none (marks_of pages.marks page).writable refl;

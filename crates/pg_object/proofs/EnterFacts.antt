@@ -1,5 +1,5 @@
 -- A fault is the plain step of its event.
-use Rattle.std.proofs.Common.{◌≡◌, ◌≢◌, ℕ, ◌+◌, ◌-◌, ◌/◌, ◌<◌, ◌≤◌, ◌==◌, Bool, true, false, List, [], ◌∷◌, ◌++◌, length, map, replicate, Option, Some, None, refl, sym, ap, subst, ◌∙◌, arith, not, inl, inr}
+use Rattle.std.proofs.Common.{◌≡◌, ◌≢◌, ℕ, zero, suc, ◌+◌, ◌-◌, ◌/◌, ◌<◌, ◌≤◌, ◌==◌, Bool, true, false, List, [], ◌∷◌, ◌++◌, length, map, replicate, Option, Some, None, refl, sym, ap, subst, ◌∙◌, arith, not, inl, inr, take}
 use Rattle.std.specs.Prelude.{◌&&◌, ◌||◌, ◌⊎◌, IsTrue, IsSome, All, IsSomeAnd, IfSome, IfOk, Result, Ok, Err, find, is_some, is_err, slice_get, unwrap_or, if◌then◌else◌}
 use Rattle.std.specs.Option.{option_map, option_map_or, option_or}
 use Rattle.std.proofs.lemmas.Grind.{common_steps}
@@ -45,17 +45,20 @@ use Rattle.pg_plain.specs.Verdict.{differs, private_copy, unsigned, beyond_limit
 use Rattle.pg_plain.specs.Calls.{needs_read, is_denied_unread, is_denied_read, victim_calls, enter_calls, page_calls}
 use Rattle.pg_plain.specs.Given.{victim, records_left, entered, given_page, fronted}
 use Rattle.pg_plain.specs.Steps.{denied_or, failed_or, left_for, read_fails, write_fails, give, enter_page, enter_region, file_step}
+use Rattle.pg_io.specs.declared.pager_call.PagerCall.{PagerCall}
+use Rattle.pg_io.specs.declared.pager_call.PagerCall.TheVariants.{Reads, Writes}
+use Rattle.pg_cache.proofs.CalledLaws.{called_both, saves_of, peek_called, bring_called}
 use Rattle.pg_object.specs.Object.{ObjectNow, resident_of, seen, cover_of}
-use Rattle.pg_object.specs.Seals.{seal_for, AreSealed}
+use Rattle.pg_object.specs.Seals.{seal_for, hashes_to, MarksAgree}
 use Rattle.pg_object.specs.Kept.{IsInside, IsKept}
 use Rattle.pg_bytes.specs.Counts.{Rose}
 use Rattle.pg_object.specs.declared.take.Taken.{Taken}
 use Rattle.pg_object.specs.Acts.{LeavesRoom, room_of_access, nothing_back, Acts}
-use Rattle.pg_object.specs.Checked.{is_validated, is_checked, is_given, takes_out, takes_in, KeepsChecked, hash_pages, needs_bytes, IsLazy}
+use Rattle.pg_object.specs.Checked.{is_validated, is_checked, is_given, takes_out, takes_in, KeepsChecked, hash_pages, hash_pages_to, told_broken, needs_bytes, IsLazy}
 use Rattle.pg_object.specs.Checked as checked
-use Rattle.pg_object.specs.Enters.{mapped, against, says, Hashes, Counts, Looks, marks_looked, Brought, Unmaps, records_gone, GivesTo, marks_given}
-use Rattle.pg_object.specs.PagerCalls.{reads_made, ReadsAfter}
-use Rattle.pg_object.proofs.PagerCallFacts.{no_reads, reads_are, reads_uncalled, fault_reads_to, fault_reads}
+use Rattle.pg_object.specs.Enters.{mapped, against, says, hashed_for, Hashes, Counts, Looks, marks_looked, Brought, Unmaps, records_gone, GivesTo, marks_given}
+use Rattle.pg_object.specs.PagerCalls.{calls_of_fault, calls_done, Called, reads_made, ReadsAfter}
+use Rattle.pg_object.proofs.PagerCallFacts.{no_reads, reads_are, reads_uncalled, done_uncalled, done_all, fault_reads_to, fault_reads}
 use Rattle.pg_object.proofs.ReadFacts.{unread, peek_reads}
 use Rattle.pg_object.proofs.TellFacts.{tells_of}
 use Rattle.pg_object.proofs.KeepFacts.{resident_is}
@@ -75,6 +78,34 @@ use Rattle.pg_object.proofs.RoomFacts.{gains_same, gains_given}
 -- a page that was looked at
 abbrev noted_ok : Option Denial → Result (Option Denial) PagerFault
 noted_ok told = Ok told
+
+-- ---- replies that are not one
+
+no_denial : (denial : Denial) → None ≡ Some denial → ⊥
+no_denial denial e = cc
+
+denied_apart : (denial : Denial) (page : ℕ) → reply.Denied denial ≡ reply.PagerFault page → ⊥
+denied_apart denial page e = cc
+
+given_apart : (left : Option ℕ) (told : Option Denial) (page : ℕ) → reply.Given left told ≡ reply.PagerFault page → ⊥
+given_apart left told page e = cc
+
+fault_same : (one other : ℕ) → reply.PagerFault one ≡ reply.PagerFault other → one ≡ other
+fault_same one other e = cc
+
+-- a page of a list is not one that is not found in it
+get_apart : (held : List Held) (n page : ℕ) (v : Held) → slice_get held n ≡ Some v → find_held held page ≡ None → v.page ≡ page → ⊥
+get_apart [] n page v e none same = absurd (cc)
+get_apart (h ∷ held) zero page v e none same = by_test (h.page == page) refl none
+  where
+    by_test : (b : Bool) → (h.page == page) ≡ b → (if b then Some h else find_held held page) ≡ None → ⊥
+    by_test true f none = absurd (cc)
+    by_test false f none = let is : h ≡ v = cc in let own : h.page ≡ page = ap (λ (x : Held). x.page) is ∙ same in grind (arith, common_steps, f, own)
+get_apart (h ∷ held) (suc n) page v e none same = by_test (h.page == page) none (get_apart held n page v e)
+  where
+    by_test : (b : Bool) → (if b then Some h else find_held held page) ≡ None → (find_held held page ≡ None → v.page ≡ page → ⊥) → ⊥
+    by_test true none behind = absurd (cc)
+    by_test false none behind = behind none same
 
 -- All that the contract of a fault says.
 pub record DoesEnter (hash : Hash) (old : ObjectNow) (id page : ℕ) (access : Access) (flags : ProcFlags) (resolve : ℕ) (answer : FileReply) (new : ObjectNow) : Type 0 where
@@ -97,6 +128,8 @@ module _ (hash : Hash) (old : ObjectNow) (kept : IsKept hash old) (id page : ℕ
     unhashed = λ other. refl;
     few = omega arith;
     hashed = more_or_same old.pages.calls (hash_pages old page);
+    to_slot = λ p slot found wanted told. more_or_same old.pages.calls (hash_pages_to old page slot);
+    unread = λ failed. refl;
     unneeded = λ none. refl;
     no_hash = λ there. refl;
     kept = λ executes none gives. absurd (grind (arith, common_steps, ungiven, gives));
@@ -325,6 +358,8 @@ module _ (hash : Hash) (old : ObjectNow) (kept : IsKept hash old) (id page : ℕ
               unhashed = λ other. refl;
               few = omega arith;
               hashed = more_or_same old.pages.calls (hash_pages old page);
+              to_slot = λ p slot found wanted told. more_or_same old.pages.calls (hash_pages_to old page slot);
+              unread = λ failed. refl;
               unneeded = λ none. refl;
               no_hash = λ there. refl;
               kept = λ executes none given_it. absurd (grind (arith, common_steps, copy, ap (λ o. is_some (option_map (λ (c : Copy). c.bytes) o)) none));
@@ -433,6 +468,33 @@ module _ (hash : Hash) (old : ObjectNow) (kept : IsKept hash old) (id page : ℕ
               ∙ ap (λ c. old.pages.cache.pager.page_size / hash_page c) is.own in
               subst (λ n. seen_pages.calls ≤ old.pages.calls + n) (sym own) counts.few
 
+      -- and up to the hash page that is told
+      slot_calls : (told : Option Denial) → noted ≡ Ok told → (p slot : ℕ) (found wanted : List ℕ) → option_or broken told ≡ Some (Mismatch p slot found wanted)
+          → seen_pages.calls ≤ old.pages.calls + hash_pages_to old page slot
+      slot_calls told is p slot found wanted tells = by_blob blob refl looks.counts
+        where
+          no_more : (now before more : ℕ) → now ≡ before → now ≤ before + more
+          no_more now before more same = omega arith
+
+          by_blob : (b : Option Signature) → blob ≡ b → Counts old.pages.cache.pager.page_size b old.pages page noted seen_pages → seen_pages.calls ≤ old.pages.calls + hash_pages_to old page slot
+          by_blob None f counts = no_more seen_pages.calls old.pages.calls (hash_pages_to old page slot) counts
+          by_blob (Some b) f counts =
+              let found_against = against_some old page kept.regions_sound region access broken b rule (sym held_against ∙ f) in
+              let own : hash_pages_to old page slot ≡ hashes_to old.pages.cache.pager.page_size b page slot =
+              ap (λ (o : Option Attached). option_map_or (λ attached. hashes_to old.pages.cache.pager.page_size attached.signature page slot) o 0) found_against.cover
+              ∙ ap (λ c. hashes_to old.pages.cache.pager.page_size c page slot) found_against.own in
+              let now_told : noted ≡ Ok (Some (Mismatch p slot found wanted)) = is ∙ ap noted_ok (sym (ap (λ o. option_or o told) found_against.unbroken) ∙ tells) in
+              subst (λ n. seen_pages.calls ≤ old.pages.calls + n) (sym own)
+              (subst (λ r. seen_pages.calls ≤ old.pages.calls + hashed_for old.pages.cache.pager.page_size b page r) now_told counts.once)
+
+      -- where the page could not be read there are none
+      unread_calls : is_err noted ≡ true → seen_pages.calls ≡ old.pages.calls
+      unread_calls failed = by_blob blob refl looks.counts
+        where
+          by_blob : (b : Option Signature) → blob ≡ b → Counts old.pages.cache.pager.page_size b old.pages page noted seen_pages → seen_pages.calls ≡ old.pages.calls
+          by_blob None f counts = counts
+          by_blob (Some b) f counts = counts.unread failed
+
       -- and not at all where the access is judged without the page's bytes
       unneeded_calls : needs_bytes old id page access ≡ false → seen_pages.calls ≡ old.pages.calls
       unneeded_calls none = by_blob blob refl looks.counts
@@ -461,7 +523,7 @@ module _ (hash : Hash) (old : ObjectNow) (kept : IsKept hash old) (id page : ℕ
         resident_same : (q : ℕ) → is_some (resident_page pages.cache q) ≡ is_some (resident_page old.pages.cache q)
         resident_same q = ap (λ (l : List Held). is_some (find_held l q)) held
 
-        stayed_sealed : AreSealed stayed
+        stayed_sealed : MarksAgree stayed
         stayed_sealed = record {
           signed = λ q s e. subst (λ n. Signs old.blobs n q s) (sym sizes.page_size) (by_either q s (marked.validated q s (sym (ap (λ ms. (marks_of ms q).validated) marks) ∙ e)));
           unmapped = λ q none. by_mark q none (marks_of pages.marks q).writable refl;
@@ -517,15 +579,19 @@ module _ (hash : Hash) (old : ObjectNow) (kept : IsKept hash old) (id page : ℕ
                 by_either (inl was) = grind (arith, common_steps, sym gone ∙ checked_is old q ∙ ap (λ b. b && is_validated old q) resident ∙ ap is_some was)
                 by_either (inr now) = let none : None ≡ Some s = sym (unsealed (ap (λ n. is_some (resident_page old.pages.cache n)) (sym now.0) ∙ resident)) ∙ now.1 in cc
 
-        stays_does : (answer : FileReply) → is_given answer ≡ false → ((q : ℕ) → takes_out old (event.Enter id page access flags resolve) answer q ≡ false)
+        stays_does : (answer : FileReply) → is_given answer ≡ false
+            → ((p slot : ℕ) (found wanted : List ℕ) → told_broken answer ≡ Some (Mismatch p slot found wanted) → seen_pages.calls ≤ old.pages.calls + hash_pages_to old page slot)
+            → (answer ≡ reply.PagerFault page → seen_pages.calls ≡ old.pages.calls) → ((q : ℕ) → takes_out old (event.Enter id page access flags resolve) answer q ≡ false)
             → Acts hash old (event.Enter id page access flags resolve) None answer stayed → DoesEnter hash old id page access flags resolve answer stayed
-        stays_does answer ungiven untaken acts = record {
+        stays_does answer ungiven up_to none_hashed untaken acts = record {
           acts = acts;
           checked = stayed_checked answer untaken;
           lazy = record {
             unhashed = λ other. calls ∙ lazy_calls.0 other;
             few = let few = lazy_calls.1 in omega arith;
             hashed = subst (λ n. n ≤ old.pages.calls + hash_pages old page) (sym calls) hashed_calls;
+            to_slot = λ p slot found wanted tells. subst (λ n. n ≤ old.pages.calls + hash_pages_to old page slot) (sym calls) (up_to p slot found wanted tells);
+            unread = λ is. calls ∙ none_hashed is;
             unneeded = λ none. calls ∙ unneeded_calls none;
             no_hash = λ there. calls ∙ lazy_calls.2 there;
             kept = λ executes none gives. absurd (grind (arith, common_steps, ungiven, gives));
@@ -588,11 +654,15 @@ module _ (hash : Hash) (old : ObjectNow) (kept : IsKept hash old) (id page : ℕ
             stays_does seen_pages looks.leaves.list looks.leaves.sizes looks.leaves.sound looks.marked refl refl
             (λ there. absurd (grind (arith, common_steps, absent, there))) (λ there. absurd (grind (arith, common_steps, absent, checked_resident old page there)))
             (λ there. absurd (grind (arith, common_steps, absent, there)))
-            (reply.PagerFault page) refl (untaken_fault page) (record {
+            (reply.PagerFault page) refl (λ p slot found wanted tells. absurd (no_denial (Mismatch p slot found wanted) tells)) (λ same. unread_calls failed) (untaken_fault page) (record {
               pages = some_pages old.pages.cache;
               pages_after = some_pages old.pages.cache;
               outcome = 1;
               few = subst (λ (l : List ℕ). 1 ≤ length l) (sym (calls_absent (some_pages old.pages.cache) absent)) (omega arith);
+              calls = subst (λ (calls : List PagerCall). Called old.pages.cache.pager calls seen_pages.cache.pager)
+                  (sym (ap (λ (l : List ℕ). take 1 (calls_of_fault l)) (calls_absent (some_pages old.pages.cache) absent)))
+                  (subst (λ b. Called old.pages.cache.pager (if b then [] else Reads page ∷ []) seen_pages.cache.pager) absent
+                  (peek_called old.pages.cache seen_pages.cache page true (leaves_of true failed).steps));
               reads = reads_are 1 (reads_made hash (seen old (some_pages old.pages.cache)) (event.Enter id page access flags resolve) 1) old.pages.cache.pager.reads seen_pages.cache.pager.reads
                   (sym (fault_reads_to 0 (page_calls hash (seen old (some_pages old.pages.cache)) (event.Enter id page access flags resolve)) page
                   (if is_denied_read hash (seen old (some_pages old.pages.cache)) region page access flags then [] else victim_calls (victim (seen old (some_pages old.pages.cache)) page))
@@ -673,6 +743,9 @@ module _ (hash : Hash) (old : ObjectNow) (kept : IsKept hash old) (id page : ℕ
           peek_calls : (b : Bool) → is_some (resident_page old.pages.cache page) ≡ b → MadeCalls old.pages.cache.pager (if b then [] else false ∷ []) seen_pages.cache.pager
           peek_calls b e = subst (λ c. MadeCalls old.pages.cache.pager (if c then [] else false ∷ []) seen_pages.cache.pager) e (peek_made old.pages.cache seen_pages.cache page false (leaves_of false not_failed).steps)
 
+          peek_called_as : (b : Bool) → is_some (resident_page old.pages.cache page) ≡ b → Called old.pages.cache.pager (if b then [] else Reads page ∷ []) seen_pages.cache.pager
+          peek_called_as b e = subst (λ c. Called old.pages.cache.pager (if c then [] else Reads page ∷ []) seen_pages.cache.pager) e (peek_called old.pages.cache seen_pages.cache page false (leaves_of false not_failed).steps)
+
           same_reads : is_some (resident_page old.pages.cache page) ≡ true → seen_pages.cache.pager.reads ≡ old.pages.cache.pager.reads
           same_reads there = ap (λ (c : CacheNow). c.pager.reads) ((leaves_of false not_failed).no_call there).1
 
@@ -719,11 +792,13 @@ module _ (hash : Hash) (old : ObjectNow) (kept : IsKept hash old) (id page : ℕ
             pub enters_mismatch : guarded flags ≡ true → DoesEnter hash old id page access flags resolve (reply.Denied denial) (with_parts old seen_pages old.regions)
             enters_mismatch g =
                 stays_does seen_pages looks.leaves.list looks.leaves.sizes looks.leaves.sound looks.marked refl refl same_reads checked_ok (λ there. unsealed_now)
-                (reply.Denied denial) refl (untaken_denied denial) (record {
+                (reply.Denied denial) refl
+                (λ p slot found wanted tells. slot_calls told is p slot found wanted (ap (λ o. option_or o told) (under g) ∙ breaks ∙ tells)) (λ same. absurd (denied_apart denial page same)) (untaken_denied denial) (record {
                   pages = found_pages;
                   pages_after = found_pages;
                   outcome = 0;
                   few = omega arith;
+                  calls = called_of (is_some (resident_page old.pages.cache page)) refl;
                   reads = reads_found seen_pages.cache.pager.reads refl []
                       (λ e. calls_absent found_pages e ∙ ap (λ b. page ∷ (if b then [] else victim_calls (victim (seen old found_pages) page))) denied_read);
                   found = read.before;
@@ -742,6 +817,13 @@ module _ (hash : Hash) (old : ObjectNow) (kept : IsKept hash old) (id page : ℕ
               where
                 denied_read : is_denied_read hash (seen old found_pages) region page access flags ≡ true
                 denied_read = ap (λ b. b && is_some (rule_of_bytes hash (seen old found_pages) page access)) g ∙ ap is_some (sym (under_rule g) ∙ breaks)
+
+                called_of : (b : Bool) → is_some (resident_page old.pages.cache page) ≡ b → Called old.pages.cache.pager (calls_done hash (seen old found_pages) (event.Enter id page access flags resolve) 0) seen_pages.cache.pager
+                called_of true e = subst (λ (calls : List PagerCall). Called old.pages.cache.pager calls seen_pages.cache.pager)
+                    (sym (done_uncalled hash (seen old found_pages) (event.Enter id page access flags resolve) 0 (calls_resident found_pages e))) (peek_called_as true e)
+                called_of false e = subst (λ (calls : List PagerCall). Called old.pages.cache.pager calls seen_pages.cache.pager)
+                    (sym (done_all hash (seen old found_pages) (event.Enter id page access flags resolve)
+                    ∙ ap calls_of_fault (calls_absent found_pages e ∙ ap (λ b. page ∷ (if b then [] else victim_calls (victim (seen old found_pages) page))) denied_read))) (peek_called_as false e)
 
                 by_resident : (b : Bool) → is_some (resident_page old.pages.cache page) ≡ b → MadeCalls old.pages.cache.pager (replicate (length (page_calls hash (seen old found_pages) (event.Enter id page access flags resolve))) false) seen_pages.cache.pager
                 by_resident true e = subst (λ (l : List ℕ). MadeCalls old.pages.cache.pager (replicate (length l) false) seen_pages.cache.pager) (sym (calls_resident found_pages e)) (peek_calls true e)
@@ -838,11 +920,17 @@ module _ (hash : Hash) (old : ObjectNow) (kept : IsKept hash old) (id page : ℕ
               enters_unwritten =
                   stays_does pages (gives_failed.unchanged ∙ looks.leaves.list) (sizes_both old.pages.cache seen_pages.cache pages.cache looks.leaves.sizes gives_failed.sizes) gives_failed.sound brings.marked same_marks brings.calls
                   (λ is_there. absurd (grind (arith, common_steps, absent_now, is_there))) checked_ok (λ is_there. absurd (grind (arith, common_steps, absent_now, is_there)))
-                  (reply.PagerFault fault.page) refl (untaken_fault fault.page) (record {
+                  (reply.PagerFault fault.page) refl (λ p slot found wanted tells. absurd (no_denial (Mismatch p slot found wanted) tells))
+                  (λ same. absurd (get_apart seen_pages.cache.held (seen_pages.cache.limit - 1) page v.0 v.1.0 absent_seen (sym v.1.1.0 ∙ fault_same fault.page page same))) (untaken_fault fault.page) (record {
                     pages = found_pages;
                     pages_after = found_pages;
                     outcome = 2;
                     few = subst (λ (l : List ℕ). 2 ≤ length l) (sym calls_now) (omega arith);
+                    calls = subst (λ (calls : List PagerCall). Called old.pages.cache.pager calls pages.cache.pager)
+                        (sym (ap (λ (l : List ℕ). take 2 (calls_of_fault l)) calls_now))
+                        (called_both old.pages.cache.pager seen_pages.cache.pager pages.cache.pager (Reads page ∷ []) (Writes v.0.page ∷ []) (peek_called_as false absent_now)
+                        (subst (λ (calls : List PagerCall). Called seen_pages.cache.pager calls pages.cache.pager) (ap saves_of v.1.0 ∙ ap (λ b. if b then Writes v.0.page ∷ [] else []) v.1.1.1)
+                        (bring_called seen_pages.cache pages.cache page (Err fault) absent_seen there gives_failed.steps)));
                     reads = reads_are 1 (reads_made hash (seen old found_pages) (event.Enter id page access flags resolve) 2) old.pages.cache.pager.reads pages.cache.pager.reads
                         (sym (fault_reads_to 1 (page_calls hash (seen old found_pages) (event.Enter id page access flags resolve)) page (v.0.page ∷ []) calls_now))
                         (subst (λ n. ReadsAfter 1 old.pages.cache.pager.reads n) (sym (gives_failed.no_read there))
@@ -964,6 +1052,31 @@ module _ (hash : Hash) (old : ObjectNow) (kept : IsKept hash old) (id page : ℕ
                       by_dirty true made = made
                       by_dirty false made = made
 
+              final_called : (b : Bool) → is_some (resident_page old.pages.cache page) ≡ b → Called old.pages.cache.pager (calls_done hash (seen old found_pages) (event.Enter id page access flags resolve) 0) given_pages.cache.pager
+              final_called true e =
+                  subst (λ (calls : List PagerCall). Called old.pages.cache.pager calls given_pages.cache.pager) (sym (done_uncalled hash (seen old found_pages) (event.Enter id page access flags resolve) 0 (calls_resident found_pages e)))
+                  (subst (λ p. Called old.pages.cache.pager [] p) (sym (ap (λ (c : CacheNow). c.pager) own_cache ∙ (gives_fine.no_call (seen_resident ∙ e)).1)) (peek_called_as true e))
+              final_called false e =
+                  subst (λ (calls : List PagerCall). Called old.pages.cache.pager calls given_pages.cache.pager)
+                  (sym (done_all hash (seen old found_pages) (event.Enter id page access flags resolve)
+                  ∙ ap calls_of_fault (calls_absent found_pages e ∙ ap (λ b. page ∷ (if b then [] else victim_calls (victim (seen old found_pages) page))) fine_read ∙ ap (λ o. page ∷ victim_calls o) (victim_is e))
+                  ∙ ap (λ (calls : List PagerCall). Reads page ∷ calls) (by_victim (cache.victim seen_pages.cache))))
+                  (subst (λ (c : CacheNow). Called old.pages.cache.pager (Reads page ∷ saves_of (cache.victim seen_pages.cache)) c.pager) (sym own_cache)
+                  (called_both old.pages.cache.pager seen_pages.cache.pager pages.cache.pager (Reads page ∷ []) (saves_of (cache.victim seen_pages.cache)) (peek_called_as false e)
+                  (bring_called seen_pages.cache pages.cache page (Ok left) (none_is (resident_page seen_pages.cache page) (seen_resident ∙ e)) there gives_fine.steps)))
+                where
+                  none_is : (o : Option Held) → is_some o ≡ false → o ≡ None
+                  none_is None e = refl
+                  none_is (Some x) e = absurd (grind (arith, common_steps, e))
+
+                  by_victim : (w : Option Held) → map Writes (victim_calls (option_map resident_of w)) ≡ saves_of w
+                  by_victim None = refl
+                  by_victim (Some h) = by_dirty h.dirty
+                    where
+                      by_dirty : (b : Bool) → map Writes (if b then h.page ∷ [] else []) ≡ (if b then Writes h.page ∷ [] else [])
+                      by_dirty true = refl
+                      by_dirty false = refl
+
               final_sizes : KeepsSizes old.pages.cache given_pages.cache
               final_sizes = subst (KeepsSizes old.pages.cache) (sym own_cache) sizes
 
@@ -973,6 +1086,7 @@ module _ (hash : Hash) (old : ObjectNow) (kept : IsKept hash old) (id page : ℕ
                 pages_after = found_pages;
                 outcome = 0;
                 few = omega arith;
+                calls = final_called (is_some (resident_page old.pages.cache page)) refl;
                 reads = reads_found given_pages.cache.pager.reads (ap (λ (c : CacheNow). c.pager.reads) own_cache ∙ gives_fine.no_read there)
                     (victim_calls (victim (seen old found_pages) page))
                     (λ e. calls_absent found_pages e ∙ ap (λ b. page ∷ (if b then [] else victim_calls (victim (seen old found_pages) page))) fine_read);
@@ -1052,7 +1166,7 @@ module _ (hash : Hash) (old : ObjectNow) (kept : IsKept hash old) (id page : ℕ
                       ap (λ n. (marks_of pages.marks n).validated) same
                       ∙ by_taken (takes_out old (event.Enter id page access flags resolve) (reply.Given left (option_or broken told)) page) refl (ap (λ n. (marks_of given_pages.marks n).validated) (sym same) ∙ e)
 
-              final_sealed : AreSealed final
+              final_sealed : MarksAgree final
               final_sealed = record {
                 signed = λ q s e. subst (λ n. Signs old.blobs n q s) (sym final_sizes.page_size) (by_either q s (took_it.validated q s (given_validated q s e)));
                 unmapped = λ q none. by_page q (ap is_some none) (q == page) refl;
@@ -1245,6 +1359,8 @@ module _ (hash : Hash) (old : ObjectNow) (kept : IsKept hash old) (id page : ℕ
                   unhashed = λ other. own_calls ∙ lazy_calls.0 other;
                   few = let few = lazy_calls.1 in let same = own_calls in omega arith;
                   hashed = subst (λ n. n ≤ old.pages.calls + hash_pages old page) (sym own_calls) hashed_calls;
+                  to_slot = λ p slot found wanted tells. subst (λ n. n ≤ old.pages.calls + hash_pages_to old page slot) (sym own_calls) (slot_calls told is p slot found wanted tells);
+                  unread = λ failed. absurd (given_apart left (option_or broken told) page failed);
                   unneeded = λ none. own_calls ∙ unneeded_calls none;
                   no_hash = λ was. own_calls ∙ lazy_calls.2 was;
                   kept = λ executes none gives_all. final_kept executes gives_all;

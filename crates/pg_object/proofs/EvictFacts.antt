@@ -1,5 +1,5 @@
 -- A page that leaves memory: the call is the plain step.
-use Rattle.std.proofs.Common.{◌≡◌, ◌≢◌, ℕ, Bool, true, false, List, [], ◌∷◌, Option, Some, None, length, refl, sym, ap, subst, ◌∙◌, arith, not, inl, inr, ◌≤◌}
+use Rattle.std.proofs.Common.{◌≡◌, ◌≢◌, ℕ, Bool, true, false, List, [], ◌∷◌, Option, Some, None, length, refl, sym, ap, subst, ◌∙◌, arith, not, inl, inr, ◌≤◌, map, take, ◌++◌}
 use Rattle.std.specs.Prelude.{◌⊎◌, ◌==◌, ◌&&◌, All, Result, Ok, Err, IfSome, IsSomeAnd, MatchOption, MatchBool, is_some, option_map, if◌then◌else◌}
 use Rattle.std.specs.Option.{option_map_or}
 use Rattle.std.proofs.lemmas.Grind.{common_steps}
@@ -28,11 +28,14 @@ use Rattle.pg_plain.specs.PlainFile as plain
 use Rattle.pg_plain.specs.Given.{unmapped, without_page}
 use Rattle.pg_plain.specs.Calls.{page_calls, failed_page}
 use Rattle.pg_plain.specs.Steps.{Answer, evict_by}
+use Rattle.pg_io.specs.declared.pager_call.PagerCall.{PagerCall}
+use Rattle.pg_io.specs.declared.pager_call.PagerCall.TheVariants.{Reads, Writes}
+use Rattle.pg_cache.proofs.CalledLaws.{saves_of, evict_called, page_found}
 use Rattle.pg_object.specs.Object.{ObjectNow, seen}
 use Rattle.pg_object.specs.Kept.{IsInside, IsKept}
 use Rattle.pg_object.specs.Acts.{results, Tells, nothing_back, given_back, Acts}
-use Rattle.pg_object.specs.PagerCalls.{reads_made}
-use Rattle.pg_object.proofs.PagerCallFacts.{no_reads, reads_are, reads_of_writes}
+use Rattle.pg_object.specs.PagerCalls.{pager_calls, reads_made}
+use Rattle.pg_object.proofs.PagerCallFacts.{no_reads, reads_are, reads_of_writes, done_all}
 use Rattle.pg_object.proofs.RoomFacts.{gains_same, gains_records}
 use Rattle.pg_object.proofs.TellFacts.{tells_of}
 use Rattle.pg_object.proofs.KeepFacts.{resident_is}
@@ -48,6 +51,18 @@ calls dirty page = if dirty then page ∷ [] else []
 
 evict_calls : (hash : Hash) (old : ObjectNow) (pages : List (List ℕ)) (page : ℕ) → page_calls hash (seen old pages) (event.Evict page) ≡ calls (is_dirty old.pages.cache page) page
 evict_calls hash old pages page = ap (λ (b : Bool). calls b page) (dirty_is old pages page)
+
+-- what they are
+evict_done : (hash : Hash) (old : ObjectNow) (pages : List (List ℕ)) (page : ℕ) → pager_calls hash (seen old pages) (event.Evict page) ≡ saves_of (resident_page old.pages.cache page)
+evict_done hash old pages page = ap (map Writes) (evict_calls hash old pages page) ∙ by_page (resident_page old.pages.cache page) refl
+  where
+    by_page : (o : Option Held) → resident_page old.pages.cache page ≡ o → map Writes (calls (option_map_or (λ (h : Held). h.dirty) o false) page) ≡ saves_of o
+    by_page None e = refl
+    by_page (Some h) e = by_dirty h.dirty
+      where
+        by_dirty : (b : Bool) → map Writes (calls b page) ≡ (if b then Writes h.page ∷ [] else [])
+        by_dirty true = ap (λ p. Writes p ∷ []) (sym (page_found old.pages.cache.held page h e))
+        by_dirty false = refl
 
 -- which of them were made
 abbrev made_calls : Bool → Bool → List Bool
@@ -112,6 +127,8 @@ evicted_acts hash old now regions page kept gives after found room = record {
       ∙ ap (λ (b : Bool). evict_answer b None (seen old pages) page) (sym (there_seen old now.cache page true pages gives));
   faults = gives.faults;
   told = tells_of old.pages.cache.pager now.cache.pager (length (page_calls hash (seen old pages) (event.Evict page))) 0 (omega arith) made;
+  calls = evict_called old.pages.cache now.cache page (Ok true) gives.steps
+      ∙ ap (λ (calls : List PagerCall). old.pages.cache.pager.calls ++ calls) (sym (done_all hash (seen old pages) (event.Evict page) ∙ evict_done hash old pages page));
   reads = reads_are 0 (reads_made hash (seen old pages) (event.Evict page) 0) old.pages.cache.pager.reads now.cache.pager.reads
       (sym (reads_of_writes (length (page_calls hash (seen old pages) (event.Evict page))) (page_calls hash (seen old pages) (event.Evict page))))
       (no_reads old.pages.cache.pager.reads now.cache.pager.reads gives.reads);
@@ -203,6 +220,9 @@ failed_acts hash old now page fault kept gives =
           ∙ ap (λ (l : List ℕ). evict_answer (plain.is_resident (seen old pages) page) (failed_page l 1) (seen old pages) page) (sym one);
       faults = gives.faults;
       told = subst (λ (l : List ℕ). IfSome old.pages.cache.pager.told (λ b. IsSomeAnd now.cache.pager.told (λ n. Tells b (length l) 1 n))) (sym one) (tells_of old.pages.cache.pager now.cache.pager 1 1 (omega arith) made);
+      calls = evict_called old.pages.cache now.cache page (Err fault) gives.steps
+          ∙ ap (λ (calls : List PagerCall). old.pages.cache.pager.calls ++ calls) (sym (evict_done hash old pages page) ∙ ap (map Writes) one
+          ∙ sym (ap (λ (l : List ℕ). take 1 (map Writes l)) one));
       reads = reads_are 0 (reads_made hash (seen old pages) (event.Evict page) 1) old.pages.cache.pager.reads now.cache.pager.reads
           (sym (reads_of_writes 1 (page_calls hash (seen old pages) (event.Evict page)))) (no_reads old.pages.cache.pager.reads now.cache.pager.reads gives.reads);
       sizes = gives.sizes;

@@ -1,5 +1,5 @@
 -- A page that was checked was held against its slots.
-use Rattle.std.proofs.Common.{◌≡◌, ℕ, ◌+◌, ◌/◌, ◌<◌, ◌≤◌, List, length, Option, Some, None, refl, sym, ap, subst, ◌∙◌, arith}
+use Rattle.std.proofs.Common.{◌≡◌, ℕ, true, false, ◌+◌, ◌-◌, ◌/◌, ◌<◌, ◌≤◌, List, length, Option, Some, None, refl, sym, ap, subst, ◌∙◌, arith}
 use Rattle.std.specs.Prelude.{Result, Ok, Err, IfOk, IfErr, OnErr, IsSome, IsSomeAnd, is_err}
 use Rattle.std.proofs.lemmas.Grind.{common_steps}
 use Rattle.pg_digest.specs.Kinds.{Hash}
@@ -44,6 +44,9 @@ unmapped page old = record old { marks = cleared old.cache page old.marks }
 abbrev done : Check → Result Check PagerFault
 done check = Ok check
 
+fine : false ≡ true → ⊥
+fine e = cc
+
 module _ (hash : Hash) (blob : Signature) (old : PagesNow) (page : ℕ) (new : PagesNow) (holds : Holds old.cache.pager.page_size blob page) where
   pub looks_sealed : HasChecked hash (seal_for old.cache.pager.page_size blob page) (old.cache.pager.page_size / hash_page blob) (unmapped page old) page (Ok Sealed) new
       → Looks hash old.cache.pager.page_size (Some blob) old page (Ok None) new
@@ -55,7 +58,7 @@ module _ (hash : Hash) (blob : Signature) (old : PagesNow) (page : ℕ) (new : P
         says = subst (λ (o : Option Held). IsSomeAnd o (λ held. None ≡ says hash old.cache.pager.page_size (Some blob) page held.bytes)) (sym at.1.0)
             (sym (ap (says hash old.cache.pager.page_size (Some blob) page) at.1.1 ∙ sealed_none hash old.cache.pager.page_size blob page has.found.present holds whole has.found.answer));
         fault = tt;
-        counts = record { few = has.once; lazy = λ resident valid. (refl, (has.lazy resident (still valid)).1) };
+        counts = record { few = has.once; once = has.once; unread = λ failed. absurd (fine failed); lazy = λ resident valid. (refl, (has.lazy resident (still valid)).1) };
         marks = has.marks;
         marked = has.marked;
       }
@@ -77,12 +80,17 @@ module _ (hash : Hash) (blob : Signature) (old : PagesNow) (page : ℕ) (new : P
           few =
               let inside : part < old.cache.pager.page_size / hash_page blob = subst (λ n. part < n / hash_page blob) whole has.found.answer.inside in
               let once = has.once in omega arith;
+          once = subst (λ n. new.calls ≤ old.calls + n) (up_to (begins old.cache.pager.page_size blob page / hash_page blob)) has.once;
+          unread = λ failed. absurd (fine failed);
           lazy = λ resident valid. absurd (differ (has.lazy resident (still valid)).0);
         };
         marks = has.marks;
         marked = has.marked;
       }
     where
+      up_to : (first : ℕ) → part + 1 ≡ first + part + 1 - first
+      up_to first = omega arith
+
       ok_same : (a b : Check) → done a ≡ done b → a ≡ b
       ok_same a b e = cc
 
@@ -103,6 +111,8 @@ module _ (hash : Hash) (blob : Signature) (old : PagesNow) (page : ℕ) (new : P
     fault = has.fault;
     counts = record {
       few = let same = has.uncalled in omega arith;
+      once = let same = has.uncalled in omega arith;
+      unread = λ failed. has.uncalled;
       lazy = λ resident valid. absurd (let no = (has.leaves.no_call resident).0 in grind (arith, common_steps, no));
     };
     marks = has.marks;

@@ -2,7 +2,6 @@
 use Rattle.std.proofs.Common.{◌≡◌, ℕ, zero, suc, ◌+◌, ◌≤◌, Bool, true, false, List, [], ◌∷◌, ◌++◌, length, map, take, refl, ap, subst, ◌∙◌, arith, length-append}
 use Rattle.std.specs.Prelude.{◌||◌, nat_lt, filter, if◌then◌else◌}
 use Rattle.std.specs.List.{flat_map}
-use Rattle.std.proofs.lemmas.List.{take-append-le}
 use Rattle.std.proofs.lemmas.List.Elements.{filter-append}
 use Rattle.std.proofs.Math.Seq.{take-append-add}
 use Rattle.std.proofs.lemmas.Grind.{common_steps}
@@ -13,7 +12,9 @@ use Rattle.cs_policy.specs.declared.file.FileEvent.{FileEvent}
 use Rattle.cs_policy.specs.declared.file.FileEvent.TheVariants as event
 use Rattle.pg_plain.specs.PlainFile.{PlainFile, is_resident}
 use Rattle.pg_plain.specs.Calls.{reached, is_whole, calls_of_page, page_calls, calls_made}
-use Rattle.pg_object.specs.PagerCalls.{PagerCall, Reads, Writes, called_page, is_read, reached_calls, calls_of_fault, pager_calls, reads_of, reads_made, ReadsAfter}
+use Rattle.pg_io.specs.declared.pager_call.PagerCall.{PagerCall}
+use Rattle.pg_io.specs.declared.pager_call.PagerCall.TheVariants.{Reads, Writes}
+use Rattle.pg_object.specs.PagerCalls.{called_page, is_read, reached_calls, calls_of_fault, pager_calls, calls_done, reads_of, reads_made, ReadsAfter}
 
 -- ---- their pages
 
@@ -106,11 +107,14 @@ none_of_pages : (calls : List PagerCall) → map called_page calls ≡ [] → ca
 none_of_pages [] e = refl
 none_of_pages (call ∷ calls) e = absurd (cc)
 
--- an event without calls makes no read
+-- an event without calls makes none, and so no read
+pub done_uncalled : (hash : Hash) (file : PlainFile) (e : FileEvent) (outcome : ℕ) → page_calls hash file e ≡ [] → calls_done hash file e outcome ≡ []
+done_uncalled hash file e outcome none =
+    ap (λ (calls : List PagerCall). take (calls_made outcome (length (page_calls hash file e))) calls) (none_of_pages (pager_calls hash file e) (calls_pages hash file e ∙ none))
+    ∙ take_none {X = PagerCall} (calls_made outcome (length (page_calls hash file e)))
+
 pub reads_uncalled : (hash : Hash) (file : PlainFile) (e : FileEvent) (outcome : ℕ) → page_calls hash file e ≡ [] → reads_made hash file e outcome ≡ 0
-reads_uncalled hash file e outcome none =
-    ap (λ (calls : List PagerCall). reads_of (take (calls_made outcome (length (page_calls hash file e))) calls)) (none_of_pages (pager_calls hash file e) (calls_pages hash file e ∙ none))
-    ∙ ap reads_of (take_none {X = PagerCall} (calls_made outcome (length (page_calls hash file e))))
+reads_uncalled hash file e outcome none = ap reads_of (done_uncalled hash file e outcome none)
 
 long_calls : (hash : Hash) (file : PlainFile) (e : FileEvent) → length (pager_calls hash file e) ≡ length (page_calls hash file e)
 long_calls hash file e = long_map (pager_calls hash file e) ∙ ap length (calls_pages hash file e)
@@ -120,10 +124,21 @@ long_calls hash file e = long_map (pager_calls hash file e) ∙ ap length (calls
     long_map (call ∷ calls) = ap suc (long_map calls)
 
 -- where no call failed, all were made
-pub reads_all : (hash : Hash) (file : PlainFile) (e : FileEvent) → reads_made hash file e 0 ≡ reads_of (pager_calls hash file e)
-reads_all hash file e =
+pub done_all : (hash : Hash) (file : PlainFile) (e : FileEvent) → calls_done hash file e 0 ≡ pager_calls hash file e
+done_all hash file e =
     let long = long_calls hash file e in
-    ap reads_of (take_whole (length (page_calls hash file e)) (pager_calls hash file e) (omega arith))
+    take_whole (length (page_calls hash file e)) (pager_calls hash file e) (omega arith)
+
+pub reads_all : (hash : Hash) (file : PlainFile) (e : FileEvent) → reads_made hash file e 0 ≡ reads_of (pager_calls hash file e)
+reads_all hash file e = ap reads_of (done_all hash file e)
+
+-- some reads up to one of them
+pub read_front : (before : List ℕ) (page : ℕ) (behind : List ℕ) → take (suc (length before)) (map Reads ((before ++ page ∷ []) ++ behind)) ≡ map Reads before ++ Reads page ∷ []
+read_front [] page behind = refl
+read_front (p ∷ before) page behind = ap (λ (calls : List PagerCall). Reads p ∷ calls) (read_front before page behind)
+
+pub reads_more : (pages : List ℕ) (others : List ℕ) → map Reads (pages ++ others) ≡ map Reads pages ++ map Reads others
+reads_more pages others = map-both Reads pages others
 
 -- all calls are writes, or all are reads
 pub reads_of_writes : (n : ℕ) (pages : List ℕ) → reads_of (take n (map Writes pages)) ≡ 0
@@ -153,6 +168,3 @@ reads_append xs ys = ap length (filter-append is_read xs ys) ∙ length-append (
 -- some calls, and so many of those behind them
 pub reads_front : (xs ys : List PagerCall) (n : ℕ) → reads_of (take (length xs + n) (xs ++ ys)) ≡ reads_of xs + reads_of (take n ys)
 reads_front xs ys n = ap reads_of (take-append-add xs ys n) ∙ reads_append xs (take n ys)
-
-pub reads_within : (xs ys : List PagerCall) (n : ℕ) → n ≤ length xs → reads_of (take n (xs ++ ys)) ≡ reads_of (take n xs)
-reads_within xs ys n inside = ap reads_of (take-append-le n xs ys inside)

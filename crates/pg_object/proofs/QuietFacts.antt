@@ -1,5 +1,5 @@
 -- Calls that make no pager call and leave the pages as they are.
-use Rattle.std.proofs.Common.{◌≡◌, ℕ, false, List, [], Option, None, length, refl, sym, ap, subst, ◌∙◌, arith}
+use Rattle.std.proofs.Common.{◌≡◌, ℕ, false, List, [], Option, None, length, refl, sym, ap, subst, ◌∙◌, arith, ◌++◌}
 use Rattle.std.specs.Prelude.{All}
 use Rattle.pg_digest.specs.Kinds.{Hash}
 use Rattle.cs_policy.specs.declared.file.FileEvent.{FileEvent}
@@ -15,12 +15,14 @@ use Rattle.pg_regions.specs.RegionsNow.{RegionsNow, IsSound}
 use Rattle.pg_regions.specs.Steps.{KeepsRoom}
 use Rattle.pg_plain.specs.Calls.{page_calls}
 use Rattle.pg_plain.specs.Steps.{file_step}
+use Rattle.pg_io.specs.declared.pager_call.PagerCall.{PagerCall}
+use Rattle.pg_cache.proofs.CalledLaws.{called_none}
 use Rattle.pg_object.specs.Object.{ObjectNow, seen}
 use Rattle.pg_object.specs.PagerCalls.{reads_made}
 use Rattle.pg_object.specs.Kept.{IsInside, IsKept}
 use Rattle.pg_object.specs.Acts.{results, room_used, LeavesRoom, given_back, GainsRoom, Acts}
 use Rattle.pg_object.specs.Checked.{takes_out, KeepsChecked}
-use Rattle.pg_object.proofs.PagerCallFacts.{no_reads, reads_are, reads_uncalled}
+use Rattle.pg_object.proofs.PagerCallFacts.{no_reads, reads_are, reads_uncalled, done_uncalled}
 use Rattle.pg_object.proofs.TellFacts.{tells_of}
 use Rattle.pg_object.proofs.KeepFacts.{keep_after}
 use Rattle.pg_object.proofs.CheckedFacts.{checked_quietly}
@@ -53,6 +55,8 @@ acts_quietly hash old new e blob answer kept quiet = record {
   step = quiet.step pages;
   faults = ap (λ (now : PagesNow). now.cache.pager.faults) quiet.same;
   told = tells_of old.pages.cache.pager new.pages.cache.pager (length (page_calls hash (seen old pages) e)) 0 (omega arith) made;
+  calls = ap (λ (now : PagesNow). now.cache.pager.calls) quiet.same ∙ called_none old.pages.cache.pager
+      ∙ ap (λ (calls : List PagerCall). old.pages.cache.pager.calls ++ calls) (sym (done_uncalled hash (seen old pages) e 0 (quiet.uncalled pages)));
   reads = reads_are 0 (reads_made hash (seen old pages) e 0) old.pages.cache.pager.reads new.pages.cache.pager.reads (sym (reads_uncalled hash (seen old pages) e 0 (quiet.uncalled pages)))
       (no_reads old.pages.cache.pager.reads new.pages.cache.pager.reads (ap (λ (now : PagesNow). now.cache.pager.reads) quiet.same));
   sizes = record {

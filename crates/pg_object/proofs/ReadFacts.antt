@@ -1,5 +1,5 @@
 -- Reading a range page by page: what each step leaves.
-use Rattle.std.proofs.Common.{◌≡◌, ℕ, zero, suc, ◌+◌, ◌-◌, ◌*◌, ◌/◌, ◌<◌, ◌≤◌, Bool, true, false, List, [], ◌∷◌, ◌++◌, length, take, drop, replicate, Option, Some, None, refl, sym, ap, subst, ◌∙◌, arith, not, inl, inr, length-append}
+use Rattle.std.proofs.Common.{◌≡◌, ℕ, zero, suc, ◌+◌, ◌-◌, ◌*◌, ◌/◌, ◌<◌, ◌≤◌, Bool, true, false, List, [], ◌∷◌, ◌++◌, length, take, drop, replicate, Option, Some, None, refl, sym, ap, subst, ◌∙◌, arith, not, inl, inr, length-append, map}
 use Rattle.std.specs.Prelude.{◌⊎◌, IsTrue, MatchOption, vec_len, vec_capacity, Result, Ok, Err, OnOk, is_err, min, is_some, unwrap_or, filter, slice_set, option_map, if◌then◌else◌}
 use Rattle.std.specs.List.{concat, range_with_len}
 use Rattle.std.specs.Borrow.{Bor}
@@ -22,10 +22,13 @@ use Rattle.pg_cache.proofs.Laws.{some_pages, some_finds, finds_same, peek_read_f
 use Rattle.pg_cache.proofs.MadeLaws.{peek_made}
 use Rattle.pg_pages.specs.Marks.{blank, marks_of}
 use Rattle.pg_pages.specs.Pages.{PagesNow, IsMarked}
-use Rattle.pg_object.specs.PagerCalls.{ReadsAfter}
-use Rattle.pg_object.proofs.PagerCallFacts.{no_reads, one_read, reads_both, reads_are}
+use Rattle.pg_io.specs.declared.pager_call.PagerCall.{PagerCall}
+use Rattle.pg_io.specs.declared.pager_call.PagerCall.TheVariants.{Reads, Writes}
+use Rattle.pg_cache.proofs.CalledLaws.{called_none, called_both, peek_called}
+use Rattle.pg_object.specs.PagerCalls.{Called, ReadsAfter}
+use Rattle.pg_object.proofs.PagerCallFacts.{no_reads, one_read, reads_both, reads_are, reads_more}
 use Rattle.pg_object.specs.Writes.{end_reached}
-use Rattle.pg_object.specs.Reads.{hand_bytes, range_on, unread_before, Looks, FindsPage, ReadBefore, ReadFailed}
+use Rattle.pg_object.specs.Reads.{hand_bytes, range_on, unread_before, OnlyLooks, FindsPage, ReadBefore, ReadFailed}
 use Rattle.pg_object.proofs.RangeFacts.{Reaches, page_reached, page_inside, none_read, next_read, longer, first_last}
 
 -- ---- one page
@@ -47,7 +50,7 @@ found_page old new page result lent done sound inside gives seen at_hand long =
 
 -- ---- pages that were looked at
 
-pub looks_both : (hash : Hash) (old between new : PagesNow) → Looks hash old between → Looks hash between new → Looks hash old new
+pub looks_both : (hash : Hash) (old between new : PagesNow) → OnlyLooks hash old between → OnlyLooks hash between new → OnlyLooks hash old new
 looks_both hash old between new one two = record {
   held = two.held ∙ one.held;
   content = two.content ∙ one.content;
@@ -65,7 +68,7 @@ looks_both hash old between new one two = record {
     both page (inr a) (inl b) = inr (a.0, b ∙ a.1)
     both page first (inr b) = inr (ap (λ (l : List Held). find_held l page) (sym one.held) ∙ b.0, b.1)
 
-pub looks_same : (hash : Hash) (old : PagesNow) → IsSound old.cache → IsMarked hash old.cache old.marks → Looks hash old old
+pub looks_same : (hash : Hash) (old : PagesNow) → IsSound old.cache → IsMarked hash old.cache old.marks → OnlyLooks hash old old
 looks_same hash old sound marked = record {
   held = refl;
   content = refl;
@@ -118,7 +121,7 @@ peek_reads old new page failed peeks = by_page (resident_page old page) peeks
     by_page (Some held) same = no_reads old.pager.reads new.pager.reads (ap (λ (c : CacheNow). c.pager.reads) same.1)
 
 module _ (hash : Hash) (old mid new : PagesNow) (at count page : ℕ) (bytes : List ℕ) (was : ReadBefore hash old at count page bytes mid) (first : at / old.cache.pager.page_size ≤ page)
-    (looks : Looks hash mid new) where
+    (looks : OnlyLooks hash mid new) where
   resident_still : is_some (resident_page mid.cache page) ≡ is_some (resident_page old.cache page)
   resident_still = ap (λ (l : List Held). is_some (find_held l page)) was.looks.held
 
@@ -137,6 +140,9 @@ module _ (hash : Hash) (old mid new : PagesNow) (at count page : ℕ) (bytes : L
     made = subst (λ l. MadeCalls old.cache.pager l new.cache.pager) (one_more (is_some (resident_page old.cache page)) refl)
         (calls_made old.cache.pager mid.cache.pager new.cache.pager (replicate (length (unread_before old.cache at page)) false)
         (if is_some (resident_page mid.cache page) then [] else false ∷ []) was.made (peek_made mid.cache new.cache page false leaves.steps));
+    called = subst (λ (calls : List PagerCall). Called old.cache.pager calls new.cache.pager) (next_reads (is_some (resident_page old.cache page)) refl)
+        (called_both old.cache.pager mid.cache.pager new.cache.pager (map Reads (unread_before old.cache at page)) (if is_some (resident_page mid.cache page) then [] else Reads page ∷ [])
+        was.called (peek_called mid.cache new.cache page false leaves.steps));
     reads = reads_are (length (unread_before old.cache at page) + length (unread (is_some (resident_page old.cache page)) page)) (length (unread_before old.cache at (page + 1))) old.cache.pager.reads new.cache.pager.reads
         (sym (ap length (unread_next old.cache at page first) ∙ length-append (unread_before old.cache at page) (unread (is_some (resident_page old.cache page)) page)))
         (reads_both (length (unread_before old.cache at page)) (length (unread (is_some (resident_page old.cache page)) page)) old.cache.pager.reads mid.cache.pager.reads new.cache.pager.reads was.reads
@@ -146,6 +152,18 @@ module _ (hash : Hash) (old mid new : PagesNow) (at count page : ℕ) (bytes : L
     where
       back : KeepsSizes mid.cache old.cache
       back = record { limit = sym was.looks.sizes.limit; pages = sym was.looks.sizes.pages; page_size = sym was.looks.sizes.page_size }
+
+      next_reads : (b : Bool) → is_some (resident_page old.cache page) ≡ b
+          → map Reads (unread_before old.cache at page) ++ (if is_some (resident_page mid.cache page) then [] else Reads page ∷ []) ≡ map Reads (unread_before old.cache at (page + 1))
+      next_reads b e =
+          ap (λ c. map Reads (unread_before old.cache at page) ++ (if c then [] else Reads page ∷ [])) (resident_still ∙ e)
+          ∙ by_test b
+          ∙ sym (ap (map Reads) (unread_next old.cache at page first ∙ ap (λ c. unread_before old.cache at page ++ unread c page) e)
+          ∙ reads_more (unread_before old.cache at page) (unread b page))
+        where
+          by_test : (c : Bool) → map Reads (unread_before old.cache at page) ++ (if c then [] else Reads page ∷ []) ≡ map Reads (unread_before old.cache at page) ++ map Reads (unread c page)
+          by_test true = refl
+          by_test false = refl
 
       one_more : (b : Bool) → is_some (resident_page old.cache page) ≡ b
           → replicate (length (unread_before old.cache at page)) false ++ (if is_some (resident_page mid.cache page) then [] else false ∷ []) ≡ replicate (length (unread_before old.cache at (page + 1))) false
@@ -168,6 +186,8 @@ module _ (hash : Hash) (old mid new : PagesNow) (at count page : ℕ) (bytes : L
     after = finds_same mid.cache new.cache was.pages leaves.list leaves.content leaves.sizes was.after;
     looks = looks_both hash old mid new was.looks looks;
     made = by_page (resident_page mid.cache page) refl;
+    called = called_both old.cache.pager mid.cache.pager new.cache.pager (map Reads (unread_before old.cache at page)) (Reads page ∷ []) was.called
+        (subst (λ (o : Option Held). Called mid.cache.pager (if is_some o then [] else Reads page ∷ []) new.cache.pager) (absent (resident_page mid.cache page) refl) (peek_called mid.cache new.cache page true leaves.steps));
     reads = reads_both (length (unread_before old.cache at page)) 1 old.cache.pager.reads mid.cache.pager.reads new.cache.pager.reads was.reads
         (subst (λ o. ReadsAfter (length (unread (is_some o) page)) mid.cache.pager.reads new.cache.pager.reads) (absent (resident_page mid.cache page) refl) (peek_reads mid.cache new.cache page true leaves.steps));
     faults = subst (λ n. Rose n new.cache.pager.faults) was.faults leaves.faults;
@@ -200,6 +220,8 @@ read_none hash old at count known sound marked =
       looks = looks_same hash old sound marked;
       made = subst (λ n. MadeCalls old.cache.pager (replicate (length (filter (λ q. not (is_some (resident_page old.cache q))) (range_with_len (at / size) n))) false) old.cache.pager)
           {x = 0} {y = at / size - at / size} (omega arith) (no_calls old.cache.pager);
+      called = subst (λ n. Called old.cache.pager (map Reads (filter (λ q. not (is_some (resident_page old.cache q))) (range_with_len (at / size) n))) old.cache.pager)
+          {x = 0} {y = at / size - at / size} (omega arith) (called_none old.cache.pager);
       reads = subst (λ n. ReadsAfter (length (filter (λ q. not (is_some (resident_page old.cache q))) (range_with_len (at / size) n))) old.cache.pager.reads old.cache.pager.reads)
           {x = 0} {y = at / size - at / size} (omega arith) (no_reads old.cache.pager.reads old.cache.pager.reads refl);
       faults = refl;
@@ -253,7 +275,7 @@ module _ (hash : Hash) (old mid : PagesNow) (at count page : ℕ) (bytes : Vec �
       let begins = reaches.0 in
       was.long ∙ subst (λ n. min count (page * old.cache.pager.page_size - at) ≡ page * n - at) (sym sizes.page_size) (omega arith)
 
-  module _ (new : PagesNow) (looks : Looks hash mid new) where
+  module _ (new : PagesNow) (looks : OnlyLooks hash mid new) where
     pub stops : (failed : Bool) → failed ≡ true → PeekLeaves mid.cache page failed new.cache → ReadFailed hash old at count page new
     stops false e leaves = absurd (cc)
     stops true e leaves = read_failed hash old mid new at count page bytes.items was.read turn.first looks leaves turn.last

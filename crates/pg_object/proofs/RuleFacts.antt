@@ -15,7 +15,7 @@ use Rattle.cs_policy.specs.declared.denial.Denial.TheVariants.{Unsigned, BeyondL
 use Rattle.cs_blob.specs.Signature.{Signature}
 use Rattle.pg_digest.specs.Kinds.{Hash}
 use Rattle.pg_cache.proofs.Laws.{some_pages, some_finds}
-use Rattle.pg_regions.specs.Lookups.{is_region, region_of, record_of, writer_of, IsWriter, IsLeastWriter, HasNoWriter}
+use Rattle.pg_regions.specs.Lookups.{is_region, region_of, record_of, IsWriter, IsLeastWriter, HasNoWriter}
 use Rattle.pg_regions.specs.RegionsNow.{IsSound}
 use Rattle.pg_regions.proofs.ListFacts.{found_passes, found_has}
 use Rattle.pg_regions.proofs.PairFacts.{found_itself}
@@ -25,6 +25,8 @@ use Rattle.pg_plain.specs.Covers.{covers, is_below_limit, Fits}
 use Rattle.pg_plain.specs.Verdict.{first_denial, private_copy, unsigned, beyond_limit, writable_shared, verdict_without_bytes}
 use Rattle.pg_object.specs.Object.{ObjectNow, seen, cover_of}
 use Rattle.pg_object.specs.Kept.{IsSigned, IsKept}
+use Rattle.pg_pages.specs.Marks.{marks_of}
+use Rattle.pg_object.specs.Seals.{MarksAgree}
 use Rattle.pg_object.specs.Enters.{Holds, against}
 
 -- ---- the attached signature that covers a page
@@ -95,9 +97,9 @@ module _ (now : ObjectNow) (page : ℕ) (sound : IsSound now.regions) where
       by_region None e shared = absurd (grind (arith, common_steps, shared))
       by_region (Some region) e shared = (region, e)
 
-  pub writer_is : (o : Option ℕ) → o ≡ writer_of now.regions.regions now.regions.records page → IfSome o (IsLeastWriter now.regions.regions now.regions.records page) → IfNone o (HasNoWriter now.regions.regions now.regions.records page)
+  pub writer_is : (o : Option ℕ) → IfSome o (IsLeastWriter now.regions.regions now.regions.records page) → IfNone o (HasNoWriter now.regions.regions now.regions.records page)
       → writer (seen now []) page ≡ o
-  writer_is o e least none = by_both o (writer (seen now []) page) refl least none
+  writer_is o least none = by_both o (writer (seen now []) page) refl least none
     where
       by_both : (o w : Option ℕ) → writer (seen now []) page ≡ w → IfSome o (IsLeastWriter now.regions.regions now.regions.records page) → IfNone o (HasNoWriter now.regions.regions now.regions.records page) → w ≡ o
       by_both None None f least none = refl
@@ -117,6 +119,10 @@ module _ (now : ObjectNow) (page : ℕ) (sound : IsSound now.regions) where
           let below = each passes.1 in
           let own = passes.0 in
           ap Some (omega arith)
+
+-- nobody may write a page that is kept as checked
+pub checked_unwritten : (now : ObjectNow) (page : ℕ) → MarksAgree now → is_some (marks_of now.pages.marks page).validated ≡ true → HasNoWriter now.regions.regions now.regions.records page
+checked_unwritten now page agree kept id is = let none = ap is_some (agree.unwritten page id is) in grind (arith, common_steps, sym none ∙ kept)
 
 -- ---- where the page is covered below the limit
 

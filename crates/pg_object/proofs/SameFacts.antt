@@ -1,5 +1,5 @@
 -- When an object is seen as a plain file, and how its resident pages are seen after a call of the cache.
-use Rattle.std.proofs.Common.{◌≡◌, ℕ, Bool, true, false, List, [], ◌∷◌, Option, Some, None, length, map, refl, sym, ap, subst, ◌∙◌, arith}
+use Rattle.std.proofs.Common.{◌≡◌, ℕ, Bool, true, false, List, [], ◌∷◌, Option, Some, None, length, map, refl, sym, ap, subst, ◌∙◌, arith, ◌++◌}
 use Rattle.std.specs.Prelude.{◌==◌, IfSome, IsSomeAnd, option_map}
 use Rattle.std.specs.Option.{option_map_or}
 use Rattle.std.proofs.lemmas.Grind.{common_steps}
@@ -11,6 +11,8 @@ use Rattle.pg_cache.specs.Gives.{other_residents, marked}
 use Rattle.pg_plain.specs.PlainFile.{Resident, PlainFile, is_dirty}
 use Rattle.pg_plain.specs.Given.{without_page}
 use Rattle.pg_plain.specs.Steps.{dirtied}
+use Rattle.pg_io.specs.declared.pager_call.PagerCall.{PagerCall}
+use Rattle.pg_cache.proofs.CalledLaws.{called_none}
 use Rattle.pg_object.specs.Object.{ObjectNow, resident_of, seen}
 use Rattle.pg_cache.specs.Cache.{KeepsSizes}
 use Rattle.pg_pages.specs.Pages.{PagesNow}
@@ -29,7 +31,7 @@ use Rattle.pg_object.specs.Acts.{Tells, LeavesRoom, room_used, given_back, Acts}
 use Rattle.pg_object.specs.PagerCalls.{reads_made}
 use Rattle.pg_object.proofs.RoomFacts.{gains_same}
 use Rattle.pg_object.proofs.TellFacts.{tells_of}
-use Rattle.pg_object.proofs.PagerCallFacts.{no_reads, reads_are, reads_uncalled}
+use Rattle.pg_object.proofs.PagerCallFacts.{no_reads, reads_are, reads_uncalled, done_uncalled}
 use Rattle.pg_object.proofs.KeepFacts.{found_resident}
 
 -- whether a resident page is dirty
@@ -132,6 +134,8 @@ acts_same hash old e answer kept uncalled step =
       step = step pages found;
       faults = refl;
       told = uncalled_tells old.pages.cache.pager old.pages.cache.pager (page_calls hash (seen old pages) e) refl (uncalled pages);
+      calls = called_none old.pages.cache.pager
+          ∙ ap (λ (calls : List PagerCall). old.pages.cache.pager.calls ++ calls) (sym (done_uncalled hash (seen old pages) e 0 (uncalled pages)));
       reads = reads_are 0 (reads_made hash (seen old pages) e 0) old.pages.cache.pager.reads old.pages.cache.pager.reads (sym (reads_uncalled hash (seen old pages) e 0 (uncalled pages)))
           (no_reads old.pages.cache.pager.reads old.pages.cache.pager.reads refl);
       sizes = record { limit = refl; pages = refl; page_size = refl };

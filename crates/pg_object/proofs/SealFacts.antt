@@ -16,7 +16,7 @@ use Rattle.pg_regions.specs.RegionsNow.{RegionsNow}
 use Rattle.pg_plain.specs.PlainFile.{Attached}
 use Rattle.pg_plain.specs.Covers.{Fits, covers, is_below_limit}
 use Rattle.pg_object.specs.Object.{ObjectNow}
-use Rattle.pg_object.specs.Seals.{seal_for, AreSealed}
+use Rattle.pg_object.specs.Seals.{seal_for, MarksAgree}
 use Rattle.pg_object.specs.Kept.{IsInside, IsSigned, IsKept}
 use Rattle.pg_object.specs.Acts.{Acts}
 use Rattle.pg_object.specs.Checked.{is_validated, is_resident, takes_out, KeepsChecked}
@@ -64,8 +64,8 @@ module _ (old new : ObjectNow) (fates : Fates old new) where
       by_fate (inr gone) = absurd (let none = sym gone.validated ∙ e in cc)
 
   -- the marks say what the signatures and the records say, where these stay and no region more may write a page
-  pub fates_sealed : AreSealed old → new.pages.cache.pager.page_size ≡ old.pages.cache.pager.page_size → new.blobs ≡ old.blobs
-      → ((page id : ℕ) → IsWriter new.regions.regions new.regions.records page id → IsWriter old.regions.regions old.regions.records page id) → AreSealed new
+  pub fates_sealed : MarksAgree old → new.pages.cache.pager.page_size ≡ old.pages.cache.pager.page_size → new.blobs ≡ old.blobs
+      → ((page id : ℕ) → IsWriter new.regions.regions new.regions.records page id → IsWriter old.regions.regions old.regions.records page id) → MarksAgree new
   fates_sealed seals size blobs writers = record {
     signed = λ page seal e.
         subst (λ (n : ℕ). IsSomeAnd (find (λ (attached : Attached). covers n attached.signature page) new.blobs) (λ attached. IsTrue (is_below_limit n attached.signature page) × (seal ≡ seal_for n attached.signature page))) (sym size)

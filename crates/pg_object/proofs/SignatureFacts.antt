@@ -1,5 +1,5 @@
 -- The reading of a signature is the plain step.
-use Rattle.std.proofs.Common.{◌≡◌, ℕ, zero, suc, ◌+◌, ◌-◌, ◌/◌, ◌<◌, ◌≤◌, false, List, [], ◌∷◌, ◌++◌, length, take, drop, replicate, Option, Some, None, refl, sym, ap, subst, ◌∙◌, arith, not, inl, inr, length-append, append_assoc}
+use Rattle.std.proofs.Common.{◌≡◌, ℕ, zero, suc, ◌+◌, ◌-◌, ◌/◌, ◌<◌, ◌≤◌, false, List, [], ◌∷◌, ◌++◌, length, take, drop, replicate, Option, Some, None, refl, sym, ap, subst, ◌∙◌, arith, not, inl, inr, length-append, append_assoc, map}
 use Rattle.std.specs.Prelude.{◌⊎◌, IsTrue, is_some, filter, slice_get}
 use Rattle.std.specs.List.{concat, range_with_len}
 use mathlib.Core.Path.{fun_ext}
@@ -20,14 +20,16 @@ use Rattle.pg_pages.specs.Pages.{PagesNow}
 use Rattle.pg_plain.specs.PlainFile.{bytes_of_file}
 use Rattle.pg_plain.specs.Calls.{reached, seat_of, signature_calls, page_calls, failed_page}
 use Rattle.pg_plain.specs.Steps.{read_or_fault, read_slice, read_signature}
+use Rattle.pg_io.specs.declared.pager_call.PagerCall.{PagerCall}
+use Rattle.pg_io.specs.declared.pager_call.PagerCall.TheVariants.{Reads}
 use Rattle.pg_object.specs.Object.{ObjectNow, seen}
 use Rattle.pg_object.specs.Kept.{IsKept}
 use Rattle.pg_object.specs.Acts.{nothing_back, Acts}
 use Rattle.pg_object.proofs.RoomFacts.{gains_same}
 use Rattle.pg_object.specs.Writes.{end_reached}
-use Rattle.pg_object.specs.Reads.{HasSignature, HasNoSignature, unread_before, Looks, ReadBefore, ReadFailed}
-use Rattle.pg_object.specs.PagerCalls.{reads_made}
-use Rattle.pg_object.proofs.PagerCallFacts.{reads_are, reads_of_reads}
+use Rattle.pg_object.specs.Reads.{HasSignature, HasNoSignature, unread_before, OnlyLooks, ReadBefore, ReadFailed}
+use Rattle.pg_object.specs.PagerCalls.{Called, reads_made}
+use Rattle.pg_object.proofs.PagerCallFacts.{reads_are, reads_of_reads, done_all, read_front}
 use Rattle.pg_object.proofs.TellFacts.{tells_of}
 use Rattle.pg_object.proofs.KeepFacts.{resident_is}
 use Rattle.pg_object.proofs.CheckedFacts.{checked_quietly}
@@ -81,7 +83,8 @@ get_middle [] x rest = refl
 get_middle (y ∷ xs) x rest = get_middle xs x rest
 
 unread_at : (cache : CacheNow) (at page end : ℕ) → at / cache.pager.page_size ≤ page → page < end → resident_page cache page ≡ None
-    → (slice_get (unread_before cache at end) (length (unread_before cache at page)) ≡ Some page) × (length (unread_before cache at page) < length (unread_before cache at end))
+    → (slice_get (unread_before cache at end) (length (unread_before cache at page)) ≡ Some page) × ((length (unread_before cache at page) < length (unread_before cache at end))
+    × ((rest : List ℕ) × (unread_before cache at end ≡ (unread_before cache at page ++ page ∷ []) ++ rest)))
 unread_at cache at page end first last absent =
     let more = more_unread cache at (page + 1) (omega arith) (end - (page + 1)) in
     let here : unread_before cache at (page + 1) ≡ unread_before cache at page ++ page ∷ [] =
@@ -90,7 +93,7 @@ unread_at cache at page end first last absent =
     ap (unread_before cache at) {x = end} {y = page + 1 + (end - (page + 1))} (omega arith) ∙ more.1 ∙ ap (λ (l : List ℕ). l ++ more.0) here in
     let long : length (unread_before cache at end) ≡ length (unread_before cache at page) + 1 + length more.0 =
     ap length all ∙ length-append (unread_before cache at page ++ page ∷ []) more.0 ∙ ap (λ n. n + length more.0) (length-append (unread_before cache at page) (page ∷ [])) in
-    (ap (λ (l : List ℕ). slice_get l (length (unread_before cache at page))) all ∙ get_middle (unread_before cache at page) page more.0, omega arith)
+    (ap (λ (l : List ℕ). slice_get l (length (unread_before cache at page))) all ∙ get_middle (unread_before cache at page) page more.0, (omega arith, (more.0, all)))
 
 -- ---- the call
 
@@ -104,7 +107,7 @@ module _ (hash : Hash) (old : ObjectNow) (kept : IsKept hash old) (slice : ℕ) 
     kept = kept;
   }
 
-  looks_fates : (now : PagesNow) → Looks hash old.pages now → Fates old (with_parts old now old.regions)
+  looks_fates : (now : PagesNow) → OnlyLooks hash old.pages now → Fates old (with_parts old now old.regions)
   looks_fates now looks page = by_case (looks.marks page)
     where
       resident : is_some (resident_page now.cache page) ≡ is_some (resident_page old.pages.cache page)
@@ -127,7 +130,7 @@ module _ (hash : Hash) (old : ObjectNow) (kept : IsKept hash old) (slice : ℕ) 
     abbrev end : ℕ
     end = end_reached old.pages.cache.pager.page_size range.at range.len
 
-    does_by : (answer : FileReply) → Looks hash old.pages now → Acts hash old (event.ReadSignature slice) None answer (with_parts old now old.regions)
+    does_by : (answer : FileReply) → OnlyLooks hash old.pages now → Acts hash old (event.ReadSignature slice) None answer (with_parts old now old.regions)
         → Does hash old (event.ReadSignature slice) None answer (with_parts old now old.regions)
     does_by answer looks acts =
         does_parts hash old now old.regions (event.ReadSignature slice) answer kept acts looks.sound looks.marked looks.calls (looks_fates now looks) (fewer_same hash old kept) (λ page. refl)
@@ -149,6 +152,8 @@ module _ (hash : Hash) (old : ObjectNow) (kept : IsKept hash old) (slice : ℕ) 
       faults = was.faults;
       told = tells_of old.pages.cache.pager now.cache.pager (length (page_calls hash (seen old was.pages) (event.ReadSignature slice))) 0 (omega arith)
           (subst (λ (l : List ℕ). MadeCalls old.pages.cache.pager (replicate (length l) false) now.cache.pager) (sym (calls_are hash old slice range has was.pages)) was.made);
+      calls = subst (λ (calls : List PagerCall). Called old.pages.cache.pager calls now.cache.pager)
+          (sym (done_all hash (seen old was.pages) (event.ReadSignature slice) ∙ ap (map Reads) (calls_are hash old slice range has was.pages))) was.called;
       reads = reads_are (length (unread_before old.pages.cache range.at end)) (reads_made hash (seen old was.pages) (event.ReadSignature slice) 0) old.pages.cache.pager.reads now.cache.pager.reads
           (sym (reads_of_reads (length (page_calls hash (seen old was.pages) (event.ReadSignature slice))) (page_calls hash (seen old was.pages) (event.ReadSignature slice)) (omega arith)
           ∙ ap length (calls_are hash old slice range has was.pages))) was.reads;
@@ -163,7 +168,7 @@ module _ (hash : Hash) (old : ObjectNow) (kept : IsKept hash old) (slice : ℕ) 
         let before = length (unread_before old.pages.cache range.at page) in
         let there = unread_at old.pages.cache range.at page end was.first was.last was.unread in
         let calls = calls_are hash old slice range has was.pages in
-        let few : before < length (page_calls hash (seen old was.pages) (event.ReadSignature slice)) = subst (λ (l : List ℕ). before < length l) (sym calls) there.1 in
+        let few : before < length (page_calls hash (seen old was.pages) (event.ReadSignature slice)) = subst (λ (l : List ℕ). before < length l) (sym calls) there.1.0 in
         let failed : failed_page (page_calls hash (seen old was.pages) (event.ReadSignature slice)) (suc before) ≡ Some page = ap (λ (l : List ℕ). slice_get l before) calls ∙ there.0 in
         does_by (reply.PagerFault page) was.looks (record {
           pages = was.pages;
@@ -178,6 +183,8 @@ module _ (hash : Hash) (old : ObjectNow) (kept : IsKept hash old) (slice : ℕ) 
               ∙ ap (λ o. (read_signature (seen old was.pages) slice o, seen old was.pages)) (sym failed);
           faults = was.faults;
           told = tells_of old.pages.cache.pager now.cache.pager (length (page_calls hash (seen old was.pages) (event.ReadSignature slice))) (suc before) (omega arith) was.made;
+          calls = subst (λ (calls : List PagerCall). Called old.pages.cache.pager calls now.cache.pager)
+              (sym (ap (λ (l : List ℕ). take (suc before) (map Reads l)) (calls ∙ there.1.1.1) ∙ read_front (unread_before old.pages.cache range.at page) page there.1.1.0)) was.called;
           reads = reads_are (before + 1) (reads_made hash (seen old was.pages) (event.ReadSignature slice) (suc before)) old.pages.cache.pager.reads now.cache.pager.reads
               (sym (reads_of_reads (suc before) (page_calls hash (seen old was.pages) (event.ReadSignature slice)) (omega arith) ∙ omega arith)) was.reads;
           sizes = was.looks.sizes;

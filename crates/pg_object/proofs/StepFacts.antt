@@ -20,7 +20,7 @@ use Rattle.pg_cache.specs.Gives as gives
 use Rattle.pg_cache.specs.Steps.{ReadsSpare, WritesThrough, ReadsAndWrites, Writes}
 use Rattle.pg_cache.specs.declared.fault.PagerFault.{PagerFault}
 use Rattle.pg_cache.proofs.Laws.{write_finds, write_failed_finds}
-use Rattle.pg_cache.proofs.MadeLaws.{write_once_made, write_part_made}
+use Rattle.pg_cache.proofs.MadeLaws.{Unread, ReadAndWritten, write_once_made, write_part_made}
 use Rattle.pg_cache.proofs.GiveFacts.{sizes_both}
 use Rattle.pg_pages.specs.Marks.{Marks, marks_of}
 use Rattle.pg_pages.specs.MarkSteps.{spare_gone, written}
@@ -28,9 +28,12 @@ use Rattle.pg_pages.specs.Pages.{PagesNow, IsMarked}
 use Rattle.pg_plain.specs.PlainFile.{Resident}
 use Rattle.pg_plain.specs.Calls.{is_whole}
 use Rattle.pg_plain.specs.Steps.{is_reached, written_pages, cleaned}
+use Rattle.pg_io.specs.declared.pager_call.PagerCall.{PagerCall}
+use Rattle.pg_cache.proofs.CalledLaws.{called_none, called_both}
+use Rattle.std.proofs.Math.Seq.{take-append-add}
 use Rattle.pg_object.specs.Object.{resident_of}
 use Rattle.pg_object.specs.Writes.{offset_on, part_on, part_before, IsLess, Wrote, calls_on, calls_before, kinds_on, kinds_before, Went, Stopped, end_reached, WroteBefore, WroteAll, WroteSoFar}
-use Rattle.pg_object.specs.PagerCalls.{PagerCall, reached_calls, reads_of, ReadsAfter}
+use Rattle.pg_object.specs.PagerCalls.{reached_calls, Called, reads_of, ReadsAfter}
 use Rattle.pg_object.proofs.PagerCallFacts.{no_reads, one_read, reads_both, reads_are, take_whole, reads_append, reads_front}
 use Rattle.pg_object.proofs.SizeFacts.{each_size}
 use Rattle.pg_object.proofs.ReachFacts.{Reaches, reached_from, reached_here, not_reached, reached_other}
@@ -153,6 +156,7 @@ pub record Made (old : CacheNow) (at count page : ℕ) (failed : Bool) (new : Ca
   -- how many succeeded before the last
   pub before : ℕ
   pub made : MadeCalls old.pager (replicate before false ++ failed ∷ []) new.pager
+  pub called : Called old.pager (take (suc before) (kinds_on old at count page)) new.pager
   pub reads : ReadsAfter (reads_of (take (suc before) (kinds_on old at count page))) old.pager.reads new.pager.reads
   -- a call that failed is one of these, and where none did all were made
   pub here : slice_get (calls_on old at count page) before ≡ Some page
@@ -178,6 +182,7 @@ made_calls old new at count page part_at part failed whole writes = by_held (res
     once bytes e through = record {
       before = 0;
       made = write_once_made old new page bytes failed through;
+      called = subst (λ b. Called old.pager (take 1 (reached_calls b page)) new.pager) (sym e) through.write.calls;
       reads = subst (λ b. ReadsAfter (reads_of (take 1 (reached_calls b page))) old.pager.reads new.pager.reads) (sym e) (no_reads old.pager.reads new.pager.reads through.write.reads);
       here = ap (λ b. slice_get (if b then page ∷ [] else page ∷ page ∷ []) 0) e;
       all = λ f. ap (λ b. length (if b then page ∷ [] else page ∷ page ∷ [])) e;
@@ -186,17 +191,19 @@ made_calls old new at count page part_at part failed whole writes = by_held (res
     twice : (is_some (resident_page old page) || is_whole old.pager.page_size at count page) ≡ false → ReadsAndWrites old page part_at part failed new → Made old at count page failed new
     twice e both = by_made (write_part_made old new page part_at part failed both)
       where
-        by_made : ((failed ≡ true) × MadeCalls old.pager (true ∷ []) new.pager) ⊎ MadeCalls old.pager (false ∷ failed ∷ []) new.pager → Made old at count page failed new
+        by_made : Unread old page failed new ⊎ ReadAndWritten old page failed new → Made old at count page failed new
         by_made (inl unread) = record {
           before = 0;
-          made = subst (λ b. MadeCalls old.pager (b ∷ []) new.pager) (sym unread.0) unread.1;
+          made = subst (λ b. MadeCalls old.pager (b ∷ []) new.pager) (sym unread.0) unread.1.0;
+          called = subst (λ b. Called old.pager (take 1 (reached_calls b page)) new.pager) (sym e) unread.1.1;
           reads = subst (λ b. ReadsAfter (reads_of (take 1 (reached_calls b page))) old.pager.reads new.pager.reads) (sym e) (part_reads old new page part_at part failed both);
           here = ap (λ b. slice_get (if b then page ∷ [] else page ∷ page ∷ []) 0) e;
           all = λ f. absurd (grind (arith, common_steps, f, unread.0));
         }
         by_made (inr done) = record {
           before = 1;
-          made = done;
+          made = done.0;
+          called = subst (λ b. Called old.pager (take 2 (reached_calls b page)) new.pager) (sym e) done.1;
           reads = subst (λ b. ReadsAfter (reads_of (take 2 (reached_calls b page))) old.pager.reads new.pager.reads) (sym e) (part_reads old new page part_at part failed both);
           here = ap (λ b. slice_get (if b then page ∷ [] else page ∷ page ∷ []) 1) e;
           all = λ f. ap (λ b. length (if b then page ∷ [] else page ∷ page ∷ [])) e;
@@ -240,6 +247,8 @@ starts_wrote hash old at bytes known sound marked = record {
   went = record {
     made = subst (λ n. MadeCalls old.cache.pager (replicate (length (flat_map (calls_on old.cache at (length bytes)) (range_with_len (at / old.cache.pager.page_size) n))) false) old.cache.pager)
         {x = 0} {y = at / old.cache.pager.page_size - at / old.cache.pager.page_size} (omega arith) (no_calls old.cache.pager);
+    called = subst (λ n. Called old.cache.pager (flat_map (kinds_on old.cache at (length bytes)) (range_with_len (at / old.cache.pager.page_size) n)) old.cache.pager)
+        {x = 0} {y = at / old.cache.pager.page_size - at / old.cache.pager.page_size} (omega arith) (called_none old.cache.pager);
     reads = subst (λ n. ReadsAfter (reads_of (flat_map (kinds_on old.cache at (length bytes)) (range_with_len (at / old.cache.pager.page_size) n))) old.cache.pager.reads old.cache.pager.reads)
         {x = 0} {y = at / old.cache.pager.page_size - at / old.cache.pager.page_size} (omega arith) (no_reads old.cache.pager.reads old.cache.pager.reads refl);
     faults = refl;
@@ -274,7 +283,13 @@ module _ (hash : Hash) (old mid new : PagesNow) (at : ℕ) (bytes : List ℕ) (p
       ap (λ b. reached_calls (b || is_whole mid.cache.pager.page_size at (length bytes) page) page) (so_far.wrote.resident page)
       ∙ ap (λ s. reached_calls (is_some (resident_page old.cache page) || is_whole s at (length bytes) page) page) so_far.wrote.sizes.page_size
 
-  -- the reads for the pages before, and so many calls for this one
+  -- the calls for the pages before, and so many for this one
+  called_on : (before : ℕ) → Called mid.cache.pager (take (suc before) (kinds_on mid.cache at (length bytes) page)) new.cache.pager
+      → Called old.cache.pager (kinds_before old.cache at (length bytes) page ++ take (suc before) (kinds_on old.cache at (length bytes) page)) new.cache.pager
+  called_on before called = called_both old.cache.pager mid.cache.pager new.cache.pager (kinds_before old.cache at (length bytes) page) (take (suc before) (kinds_on old.cache at (length bytes) page))
+      so_far.went.called (subst (λ (calls : List PagerCall). Called mid.cache.pager (take (suc before) calls) new.cache.pager) kinds_still called)
+
+  -- the reads among them
   reads_on : (before : ℕ) → ReadsAfter (reads_of (take (suc before) (kinds_on mid.cache at (length bytes) page))) mid.cache.pager.reads new.cache.pager.reads
       → ReadsAfter (reads_of (kinds_before old.cache at (length bytes) page) + reads_of (take (suc before) (kinds_on old.cache at (length bytes) page))) old.cache.pager.reads new.cache.pager.reads
   reads_on before reads = reads_both (reads_of (kinds_before old.cache at (length bytes) page)) (reads_of (take (suc before) (kinds_on old.cache at (length bytes) page)))
@@ -357,6 +372,13 @@ module _ (hash : Hash) (old mid new : PagesNow) (at : ℕ) (bytes : List ℕ) (p
             (ap (λ l. replicate (length (calls_before old.cache at (length bytes) page)) false ++ l) (replicate-append-replicate made.before 1 false)
             ∙ replicate-append-replicate (length (calls_before old.cache at (length bytes) page)) (made.before + 1) false ∙ ap (λ n. replicate n false) (sym count))
             (calls_made old.cache.pager mid.cache.pager new.cache.pager (replicate (length (calls_before old.cache at (length bytes) page)) false) (replicate made.before false ++ false ∷ []) so_far.went.made made.made);
+        called =
+            let long : length (kinds_on old.cache at (length bytes) page) ≡ suc made.before =
+            kinds_one old.cache at (length bytes) page ∙ ap length (sym (resident_on mid.cache so_far.wrote.sizes so_far.wrote.resident)) ∙ made.all refl in
+            subst (λ (calls : List PagerCall). Called old.cache.pager calls new.cache.pager)
+            (ap (λ (calls : List PagerCall). kinds_before old.cache at (length bytes) page ++ calls) (take_whole (suc made.before) (kinds_on old.cache at (length bytes) page) (omega arith))
+            ∙ sym (kinds_next old.cache at (length bytes) page later))
+            (called_on made.before made.called);
         reads =
             let long : length (kinds_on old.cache at (length bytes) page) ≡ suc made.before =
             kinds_one old.cache at (length bytes) page ∙ ap length (sym (resident_on mid.cache so_far.wrote.sizes so_far.wrote.resident)) ∙ made.all refl in
@@ -402,6 +424,13 @@ module _ (hash : Hash) (old mid new : PagesNow) (at : ℕ) (bytes : List ℕ) (p
                 (sym (append_both (replicate (length (calls_before old.cache at (length bytes) page)) false) (replicate made.before false) (true ∷ []))
                 ∙ ap (λ l. l ++ true ∷ []) (replicate-append-replicate (length (calls_before old.cache at (length bytes) page)) made.before false))
                 (calls_made old.cache.pager mid.cache.pager new.cache.pager (replicate (length (calls_before old.cache at (length bytes) page)) false) (replicate made.before false ++ true ∷ []) so_far.went.made made.made);
+            called =
+                let long = kinds_many old.cache at (length bytes) page in
+                subst (λ (calls : List PagerCall). Called old.cache.pager calls new.cache.pager)
+                (sym (ap (λ n. take n (kinds_before old.cache at (length bytes) page ++ kinds_on old.cache at (length bytes) page))
+                {x = suc (length (calls_before old.cache at (length bytes) page) + made.before)} {y = length (kinds_before old.cache at (length bytes) page) + suc made.before} (omega arith)
+                ∙ take-append-add (kinds_before old.cache at (length bytes) page) (kinds_on old.cache at (length bytes) page) (suc made.before)))
+                (called_on made.before made.called);
             reads =
                 let long = kinds_many old.cache at (length bytes) page in
                 reads_are (reads_of (kinds_before old.cache at (length bytes) page) + reads_of (take (suc made.before) (kinds_on old.cache at (length bytes) page)))

@@ -28,6 +28,8 @@ use Rattle.pg_plain.specs.Calls.{reached, is_whole, calls_of_page, page_calls, c
 use Rattle.pg_plain.specs.Given.{unexecuted}
 use Rattle.pg_plain.specs.Content.{count_written}
 use Rattle.pg_plain.specs.Steps.{is_reached, written_pages, cleaned, written, write_by}
+use Rattle.pg_io.specs.declared.pager_call.PagerCall.{PagerCall}
+use Rattle.std.proofs.lemmas.List.{take-append-le}
 use Rattle.pg_object.specs.Object.{ObjectNow, resident_of, seen}
 use Rattle.pg_object.specs.Kept.{IsKept}
 use Rattle.pg_object.specs.Acts.{has_failed, results, LeavesRoom, nothing_back, Acts}
@@ -35,8 +37,8 @@ use Rattle.pg_object.specs.Checked.{is_validated, is_checked, takes_out, KeepsCh
 use Rattle.pg_object.specs.Checked as checked
 use Rattle.pg_object.specs.Strips.{Strips}
 use Rattle.pg_object.specs.Writes.{part_before, end_reached, Wrote, calls_on, calls_before, kinds_on, kinds_before, WroteBefore, WroteAll}
-use Rattle.pg_object.specs.PagerCalls.{PagerCall, reached_calls, pager_calls, reads_of, reads_made}
-use Rattle.pg_object.proofs.PagerCallFacts.{reads_are, reads_all, reads_within}
+use Rattle.pg_object.specs.PagerCalls.{reached_calls, pager_calls, calls_done, Called, reads_of, reads_made}
+use Rattle.pg_object.proofs.PagerCallFacts.{reads_are, reads_all, done_all}
 use Rattle.pg_object.proofs.RoomFacts.{gains_same, gains_spare}
 use Rattle.pg_object.proofs.TellFacts.{tells_of}
 use Rattle.pg_object.proofs.KeepFacts.{resident_is}
@@ -296,6 +298,8 @@ module _ (hash : Hash) (old : ObjectNow) (at : ℕ) (piece : Data) (pages : Page
         pages_after = written_pages size at bytes 0 content;
         outcome = 0;
         few = omega arith;
+        calls = subst (λ (calls : List PagerCall). Called old.pages.cache.pager calls pages.cache.pager)
+            (sym (done_all hash (seen old content) (event.Write at piece) ∙ all_kinds hash old content at piece within)) all.went.called;
         reads = reads_are (reads_of (kinds_before old.pages.cache at (length bytes) (end_reached size at (length bytes)))) (reads_made hash (seen old content) (event.Write at piece) 0)
             old.pages.cache.pager.reads pages.cache.pager.reads
             (sym (reads_all hash (seen old content) (event.Write at piece) ∙ ap reads_of (all_kinds hash old content at piece within))) all.went.reads;
@@ -357,17 +361,21 @@ module _ (hash : Hash) (old : ObjectNow) (at : ℕ) (piece : Data) (pages : Page
           let many = kinds_many old.pages.cache at (length (data_bytes piece)) (stop + 1) in
           omega arith
 
-      reads_first : reads_made hash (seen old (some_pages old.pages.cache)) (event.Write at piece) some.stopped.outcome
-          ≡ reads_of (take some.stopped.outcome (kinds_before old.pages.cache at (length (data_bytes piece)) stop ++ kinds_on old.pages.cache at (length (data_bytes piece)) stop))
-      reads_first =
-          ap (λ n. reads_of (take n (pager_calls hash (seen old (some_pages old.pages.cache)) (event.Write at piece))))
+      done_first : calls_done hash (seen old (some_pages old.pages.cache)) (event.Write at piece) some.stopped.outcome
+          ≡ take some.stopped.outcome (kinds_before old.pages.cache at (length (data_bytes piece)) stop ++ kinds_on old.pages.cache at (length (data_bytes piece)) stop)
+      done_first =
+          ap (λ n. take n (pager_calls hash (seen old (some_pages old.pages.cache)) (event.Write at piece)))
           (failed_made (calls_before old.pages.cache at (length (data_bytes piece)) stop ++ calls_on old.pages.cache at (length (data_bytes piece)) stop) some.stopped.outcome stop some.stopped.failed
           (length (page_calls hash (seen old (some_pages old.pages.cache)) (event.Write at piece))))
-          ∙ ap (λ (calls : List PagerCall). reads_of (take some.stopped.outcome calls)) (all_kinds hash old (some_pages old.pages.cache) at piece within
+          ∙ ap (λ (calls : List PagerCall). take some.stopped.outcome calls) (all_kinds hash old (some_pages old.pages.cache) at piece within
           ∙ kinds_first old.pages.cache at (length (data_bytes piece)) stop (end_reached old.pages.cache.pager.page_size at (length (data_bytes piece))) later before)
-          ∙ reads_within (kinds_before old.pages.cache at (length (data_bytes piece)) stop ++ kinds_on old.pages.cache at (length (data_bytes piece)) stop)
+          ∙ take-append-le some.stopped.outcome (kinds_before old.pages.cache at (length (data_bytes piece)) stop ++ kinds_on old.pages.cache at (length (data_bytes piece)) stop)
           (flat_map (kinds_on old.pages.cache at (length (data_bytes piece))) (range_with_len (stop + 1) (end_reached old.pages.cache.pager.page_size at (length (data_bytes piece)) - (stop + 1))))
-          some.stopped.outcome within_firsts
+          within_firsts
+
+      reads_first : reads_made hash (seen old (some_pages old.pages.cache)) (event.Write at piece) some.stopped.outcome
+          ≡ reads_of (take some.stopped.outcome (kinds_before old.pages.cache at (length (data_bytes piece)) stop ++ kinds_on old.pages.cache at (length (data_bytes piece)) stop))
+      reads_first = ap reads_of done_first
 
       failed : failed_page (page_calls hash (seen old (some_pages old.pages.cache)) (event.Write at piece)) some.stopped.outcome ≡ Some stop
       failed = ap (λ l. failed_page l some.stopped.outcome) calls
@@ -381,6 +389,7 @@ module _ (hash : Hash) (old : ObjectNow) (at : ℕ) (piece : Data) (pages : Page
         pages_after = written_pages size at (part_before size at bytes stop) 0 content;
         outcome = some.stopped.outcome;
         few = failed_within (page_calls hash (seen old content) (event.Write at piece)) some.stopped.outcome stop failed;
+        calls = subst (λ (calls : List PagerCall). Called old.pages.cache.pager calls pages.cache.pager) (sym done_first) some.stopped.called;
         reads = reads_are (reads_of (take some.stopped.outcome (kinds_before old.pages.cache at (length bytes) stop ++ kinds_on old.pages.cache at (length bytes) stop)))
             (reads_made hash (seen old content) (event.Write at piece) some.stopped.outcome) old.pages.cache.pager.reads pages.cache.pager.reads (sym reads_first) some.stopped.reads;
         found = some_finds old.pages.cache kept.sound;

@@ -16,7 +16,7 @@ use Rattle.pg_regions.specs.RegionsNow.{RegionsNow, Room, spare}
 use Rattle.pg_plain.specs.Calls.{page_calls, calls_made}
 use Rattle.pg_plain.specs.Steps.{file_step}
 use Rattle.pg_object.specs.Object.{ObjectNow, seen}
-use Rattle.pg_object.specs.PagerCalls.{reads_made, ReadsAfter}
+use Rattle.pg_object.specs.PagerCalls.{calls_done, Called, reads_made, ReadsAfter}
 
 -- ---- pager calls
 
@@ -105,7 +105,10 @@ pub record Acts (hash : Hash) (old : ObjectNow) (e : FileEvent) (blob : Option S
   -- where the pager tells, it is the first of the event's calls whose number is to fail
   pub told : IfSome old.pages.cache.pager.told (λ before. IsSomeAnd new.pages.cache.pager.told (λ now.
       Tells before (length (page_calls hash (seen old pages) e)) outcome now))
-  -- the reads among the calls up to that one were made
+  -- the calls up to that one were made, one after another, and no other
+  pub calls : Called old.pages.cache.pager (calls_done hash (seen old pages) e outcome)
+      new.pages.cache.pager
+  -- and so its count of reads goes on by those among them
   pub reads : ReadsAfter (reads_made hash (seen old pages) e outcome) old.pages.cache.pager.reads new.pages.cache.pager.reads
   -- the number of the file's pages, their size and the limit of resident ones stay
   pub sizes : KeepsSizes old.pages.cache new.pages.cache

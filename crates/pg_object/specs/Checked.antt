@@ -1,5 +1,5 @@
 -- Which checks of pages an object keeps.
-use Rattle.std.specs.Prelude.{ℕ, ◌≡◌, ◌≢◌, ◌+◌, ◌/◌, ◌==◌, ◌≤◌, ◌&&◌, not, Bool, true, false, List, [], filter, find, None, is_some}
+use Rattle.std.specs.Prelude.{ℕ, ◌≡◌, ◌≢◌, ◌+◌, ◌/◌, ◌==◌, ◌≤◌, ◌&&◌, not, Bool, true, false, List, [], filter, find, Option, None, Some, is_some}
 use Rattle.std.specs.Option.{option_map_or}
 use Rattle.pg_digest.specs.Kinds.{Hash}
 use Rattle.cs_policy.specs.declared.access.Access.{Access}
@@ -8,6 +8,8 @@ use Rattle.cs_policy.specs.declared.file.FileEvent.{FileEvent}
 use Rattle.cs_policy.specs.declared.file.FileEvent.TheVariants as event
 use Rattle.cs_policy.specs.declared.file.FileReply.{FileReply}
 use Rattle.cs_policy.specs.declared.file.FileReply.TheVariants as reply
+use Rattle.cs_policy.specs.declared.denial.Denial.{Denial}
+use Rattle.cs_policy.specs.declared.denial.Denial.TheVariants.{Mismatch}
 use Rattle.pg_cache.specs.Cache.{resident, resident_page}
 use Rattle.pg_cache.specs.Finds.{Finds}
 use Rattle.pg_pages.specs.Marks.{marks_of}
@@ -19,6 +21,7 @@ use Rattle.pg_plain.specs.Steps.{is_reached}
 use Rattle.pg_plain.specs.Content.{count_written}
 use Rattle.pg_plain.specs.Keep.{IsSealedNow}
 use Rattle.pg_object.specs.Object.{ObjectNow, seen, cover_of}
+use Rattle.pg_object.specs.Seals.{hashes_to}
 
 abbrev pub is_validated : ObjectNow → ℕ → Bool
 is_validated now page = is_some (marks_of now.pages.marks page).validated
@@ -83,6 +86,17 @@ LeavesChecked old new = (page : ℕ) → is_checked old page ≡ true
 abbrev pub hash_pages : ObjectNow → ℕ → ℕ
 hash_pages now page = option_map_or (λ attached. now.pages.cache.pager.page_size / hash_page attached.signature) (cover_of now page) 0
 
+-- how many of them there are up to the one of this slot, with it
+abbrev pub hash_pages_to : ObjectNow → ℕ → ℕ → ℕ
+hash_pages_to now page slot =
+    option_map_or (λ attached. hashes_to now.pages.cache.pager.page_size attached.signature page slot) (cover_of now page) 0
+
+-- the rule that a reply tells as broken
+abbrev pub told_broken : FileReply → Option Denial
+told_broken (reply.Denied denial) = Some denial
+told_broken (reply.Given left noted) = noted
+told_broken _ = None
+
 -- an access is judged by the page's bytes: an execution, through a region that has the page, that breaks no other rule
 abbrev pub needs_bytes : ObjectNow → ℕ → ℕ → Access → Bool
 needs_bytes now id page Execute =
@@ -96,6 +110,11 @@ pub record IsLazy (old : ObjectNow) (id page : ℕ) (access : Access) (answer : 
   pub few : new.pages.calls ≤ old.pages.calls + old.pages.cache.pager.page_size / 4096
   -- and no more than once for each of its hash pages
   pub hashed : new.pages.calls ≤ old.pages.calls + hash_pages old page
+  -- where one of them is told that does not hash to its slot, at most once for each up to that one
+  pub to_slot : (p slot : ℕ) (found wanted : List ℕ) → told_broken answer ≡ Some (Mismatch p slot found wanted)
+      → new.pages.calls ≤ old.pages.calls + hash_pages_to old page slot
+  -- not where the page could not be read
+  pub unread : answer ≡ reply.PagerFault page → new.pages.calls ≡ old.pages.calls
   -- not where the access is judged without the page's bytes
   pub unneeded : needs_bytes old id page access ≡ false → new.pages.calls ≡ old.pages.calls
   -- not for a page that is checked

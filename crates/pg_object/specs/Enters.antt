@@ -27,7 +27,7 @@ use Rattle.pg_plain.specs.Given.{put_at, unexecuted}
 use Rattle.pg_object.specs.declared.take.Taken.{Taken}
 use Rattle.pg_object.specs.declared.take.Taken.TheVariants.{Failed, Denied, Ready}
 use Rattle.pg_object.specs.Acts.{LeavesRoom, nothing_back, GainsRoom}
-use Rattle.pg_object.specs.Seals.{seal_for}
+use Rattle.pg_object.specs.Seals.{seal_for, hashes_to}
 
 -- ---- a page beside its slots
 
@@ -66,9 +66,17 @@ abbrev pub marks_looked : ℕ → CacheNow → Option Signature → ℕ → Resu
 marks_looked size cache None page noted marks = peeked cache page marks
 marks_looked size cache (Some blob) page noted marks = compared page (seal_for size blob page) noted (peeked cache page (cleared cache page marks))
 
+-- how many hash pages are hashed at most: none where the page could not be read, and else those up to one that differs
+abbrev pub hashed_for : ℕ → Signature → ℕ → Result (Option Denial) PagerFault → ℕ
+hashed_for size blob page (Err fault) = 0
+hashed_for size blob page (Ok (Some (Mismatch p slot found wanted))) = hashes_to size blob page slot
+hashed_for size blob page (Ok told) = size / hash_page blob
+
 -- how often the digester was called, and that it was not for a page that was found sealed before
 pub record Hashes (size : ℕ) (blob : Signature) (old : PagesNow) (page : ℕ) (noted : Result (Option Denial) PagerFault) (new : PagesNow) : Type 0 where
   pub few : new.calls ≤ old.calls + size / hash_page blob
+  pub once : new.calls ≤ old.calls + hashed_for size blob page noted
+  pub unread : is_err noted ≡ true → new.calls ≡ old.calls
   pub lazy : IsSome (resident_page old.cache page) → IsValidated old page (seal_for size blob page) → (noted ≡ Ok None) × (new.calls ≡ old.calls)
 
 abbrev pub Counts : ℕ → Option Signature → PagesNow → ℕ → Result (Option Denial) PagerFault → PagesNow → Type 0

@@ -13,10 +13,11 @@ use Rattle.pg_cache.specs.Finds.{Finds}
 use Rattle.pg_pages.specs.Pages.{IsMarked}
 use Rattle.pg_regions.specs.RegionsNow as regions
 use Rattle.pg_plain.specs.PlainFile.{Attached}
+pub use Rattle.pg_plain.specs.Slices.{slice_range}
 use Rattle.pg_plain.specs.Covers.{Fits}
 use Rattle.pg_plain.specs.Keep.{Keep}
 use Rattle.pg_object.specs.Object.{ObjectNow, seen}
-use Rattle.pg_object.specs.Seals.{AreSealed}
+use Rattle.pg_object.specs.Seals.{MarksAgree}
 
 -- a signed slice and its signature lie within so many bytes
 abbrev pub IsSeated : ℕ → SliceSeat → Type 0
@@ -46,7 +47,7 @@ pub record IsKept (hash : Hash) (now : ObjectNow) : Type 0 where
   pub regions_sound : regions.IsSound now.regions
   pub page : now.regions.page ≡ now.pages.cache.pager.page_size
   -- what the marks say is what the signatures and the records say
-  pub seals : AreSealed now
+  pub seals : MarksAgree now
   -- the file has just the pages that its bytes reach, and its slices and regions lie within them
   pub reached : now.pages.cache.pager.pages ≡ pages_reached now.pages.cache.pager.page_size now.length
   pub laid : IsLaid now.length now.layout

@@ -1,19 +1,17 @@
 -- What each pager call of an event is: a read of a page, or a write of one.
 --
 -- The pages of these calls, in their order, are those of `page_calls`.
-use Rattle.std.specs.Prelude.{ℕ, ◌≡◌, ◌+◌, ◌-◌, ◌^◌, ◌≤◌, ◌||◌, min, nat_lt, Bool, true, false, List, [], ◌∷◌, length, map, filter, take, if◌then◌else◌}
+use Rattle.std.specs.Prelude.{ℕ, ◌≡◌, ◌+◌, ◌-◌, ◌^◌, ◌≤◌, ◌||◌, min, nat_lt, Bool, true, false, List, [], ◌∷◌, ◌++◌, length, map, filter, take, if◌then◌else◌}
 use Rattle.std.specs.List.{flat_map}
 use Rattle.pg_digest.specs.Kinds.{Hash}
 use Rattle.cs_policy.specs.Data.{data_bytes}
 use Rattle.cs_policy.specs.declared.file.FileEvent.{FileEvent}
 use Rattle.cs_policy.specs.declared.file.FileEvent.TheVariants as event
+use Rattle.pg_io.specs.declared.pager_call.PagerCall.{PagerCall}
+use Rattle.pg_io.specs.declared.pager_call.PagerCall.TheVariants.{Reads, Writes}
+use Rattle.pg_io.specs.Pager.{PagerNow}
 use Rattle.pg_plain.specs.PlainFile.{PlainFile, is_resident}
 use Rattle.pg_plain.specs.Calls.{reached, is_whole, page_calls, calls_made}
-
--- the read of a page into memory, and the write of a whole page to the file
-pub data PagerCall : Type 0 where
-  Reads : (page : ℕ) → PagerCall
-  Writes : (page : ℕ) → PagerCall
 
 abbrev pub called_page : PagerCall → ℕ
 called_page (Reads page) = page
@@ -55,16 +53,26 @@ pager_calls hash file (event.Load id page at count resolve) = []
 pager_calls hash file (event.Fetch id page at count resolve) = []
 pager_calls hash file (event.Evict page) = map Writes (page_calls hash file (event.Evict page))
 
+-- ---- the calls that are made
+
+-- the calls that an event makes, by its outcome: none behind one that failed
+abbrev pub calls_done : Hash → PlainFile → FileEvent → ℕ → List PagerCall
+calls_done hash file e outcome =
+    take (calls_made outcome (length (page_calls hash file e))) (pager_calls hash file e)
+
+-- the pager made just these calls, one after another
+abbrev pub Called : PagerNow → List PagerCall → PagerNow → Type 0
+Called old calls new = new.calls ≡ old.calls ++ calls
+
 -- ---- reads
 
 -- how many of some calls are reads
 abbrev pub reads_of : List PagerCall → ℕ
 reads_of calls = length (filter is_read calls)
 
--- how many reads an event makes, by its outcome: none behind a call that failed
+-- how many reads an event makes, by its outcome
 abbrev pub reads_made : Hash → PlainFile → FileEvent → ℕ → ℕ
-reads_made hash file e outcome =
-    reads_of (take (calls_made outcome (length (page_calls hash file e))) (pager_calls hash file e))
+reads_made hash file e outcome = reads_of (calls_done hash file e outcome)
 
 -- A pager's count of reads after so many of them. It never falls, rises at least by one for each up to 2 ^ 64 - 1, and
 -- stays where there was none.

@@ -1,9 +1,10 @@
 -- What reading a range of the file's bytes does, page by page.
-use Rattle.std.specs.Prelude.{ℕ, ◌≡◌, ◌⊎◌, ◌+◌, ◌-◌, ◌*◌, ◌/◌, ◌<◌, ◌≤◌, not, true, false, List, [], ◌∷◌, ◌++◌, filter, length, take, drop, min, replicate, Option, Some, None, is_some, unwrap_or, option_map, slice_set}
+use Rattle.std.specs.Prelude.{ℕ, ◌≡◌, ◌⊎◌, ◌+◌, ◌-◌, ◌*◌, ◌/◌, ◌<◌, ◌≤◌, not, true, false, List, [], ◌∷◌, ◌++◌, filter, length, map, take, drop, min, replicate, Option, Some, None, is_some, unwrap_or, option_map, slice_set}
 use Rattle.std.specs.List.{concat, range_with_len}
 use Rattle.pg_bytes.specs.Counts.{Rose}
 use Rattle.pg_bytes.specs.declared.fields.Range.{Range}
 use Rattle.pg_digest.specs.Kinds.{Hash}
+use Rattle.pg_io.specs.declared.pager_call.PagerCall.TheVariants.{Reads}
 use Rattle.pg_io.specs.Pager.{MadeCalls}
 use Rattle.cs_policy.specs.declared.file.FileReply.{FileReply}
 use Rattle.cs_policy.specs.declared.file.FileReply.TheVariants as reply
@@ -17,7 +18,7 @@ use Rattle.pg_plain.specs.Steps.{read_signature}
 use Rattle.pg_object.specs.declared.signatures.Unsigned.{Unsigned}
 use Rattle.pg_object.specs.declared.signatures.Unsigned.TheVariants.{NoSlices, NoSlice, NoImage}
 use Rattle.pg_object.specs.Object.{ObjectNow, seen}
-use Rattle.pg_object.specs.PagerCalls.{ReadsAfter}
+use Rattle.pg_object.specs.PagerCalls.{Called, ReadsAfter}
 use Rattle.pg_object.specs.Writes.{end_reached}
 
 -- ---- where a signature lies
@@ -56,7 +57,7 @@ unread_before cache at page =
     filter (λ q. not (is_some (resident_page cache q))) (range_with_len (at / cache.pager.page_size) (page - at / cache.pager.page_size))
 
 -- Looking at pages leaves the list, and forgets at most what was found of pages that are not resident.
-pub record Looks (hash : Hash) (old new : PagesNow) : Type 0 where
+pub record OnlyLooks (hash : Hash) (old new : PagesNow) : Type 0 where
   pub held : new.cache.held ≡ old.cache.held
   pub content : contents new.cache ≡ contents old.cache
   pub marks : (page : ℕ) → (marks_of new.marks page ≡ marks_of old.marks page) ⊎ ((resident_page old.cache page ≡ None) × (marks_of new.marks page ≡ blank))
@@ -78,8 +79,9 @@ pub record ReadBefore (hash : Hash) (old : PagesNow) (at count page : ℕ) (byte
   pub before : Finds old.cache pages
   pub after : Finds new.cache pages
   pub read : bytes ≡ take (min count (page * old.cache.pager.page_size - at)) (drop at (concat pages))
-  pub looks : Looks hash old new
+  pub looks : OnlyLooks hash old new
   pub made : MadeCalls old.cache.pager (replicate (length (unread_before old.cache at page)) false) new.cache.pager
+  pub called : Called old.cache.pager (map Reads (unread_before old.cache at page)) new.cache.pager
   pub reads : ReadsAfter (length (unread_before old.cache at page)) old.cache.pager.reads new.cache.pager.reads
   pub faults : new.cache.pager.faults ≡ old.cache.pager.faults
 
@@ -88,8 +90,9 @@ pub record ReadFailed (hash : Hash) (old : PagesNow) (at count page : ℕ) (new 
   pub pages : List (List ℕ)
   pub before : Finds old.cache pages
   pub after : Finds new.cache pages
-  pub looks : Looks hash old new
+  pub looks : OnlyLooks hash old new
   pub made : MadeCalls old.cache.pager (replicate (length (unread_before old.cache at page)) false ++ true ∷ []) new.cache.pager
+  pub called : Called old.cache.pager (map Reads (unread_before old.cache at page) ++ Reads page ∷ []) new.cache.pager
   pub reads : ReadsAfter (length (unread_before old.cache at page) + 1) old.cache.pager.reads new.cache.pager.reads
   pub faults : Rose old.cache.pager.faults new.cache.pager.faults
   pub unread : resident_page old.cache page ≡ None

@@ -1,5 +1,5 @@
 -- What a page of an object is held against when it is checked, and what the marks of the pages say.
-use Rattle.std.specs.Prelude.{ℕ, ◌≡◌, ◌+◌, ◌/◌, List, map, None, Some, IsTrue, IsSomeAnd, false}
+use Rattle.std.specs.Prelude.{ℕ, ◌≡◌, ◌+◌, ◌-◌, ◌/◌, List, map, None, Some, IsTrue, IsSomeAnd, false}
 use Rattle.std.specs.List.{concat, range_with_len}
 use Rattle.cs_directory.specs.Directory.{slot_at}
 use Rattle.cs_blob.specs.Signature.{Signature}
@@ -14,12 +14,16 @@ abbrev pub slots_of : ℕ → Signature → ℕ → List (List ℕ)
 slots_of size blob page =
     map (λ k. slot_at blob.best_bytes (begins size blob page / hash_page blob + k)) (range_with_len 0 (size / hash_page blob))
 
+-- how many hash pages the page has up to the one of this slot, with it
+abbrev pub hashes_to : ℕ → Signature → ℕ → ℕ → ℕ
+hashes_to size blob page slot = slot + 1 - begins size blob page / hash_page blob
+
 -- what the page is held against: the signature's hash type, the size of a hash page, and these digests one after another
 abbrev pub seal_for : ℕ → Signature → ℕ → Seal
 seal_for size blob page = seal_of blob.best.kind (hash_page blob) (concat (slots_of size blob page))
 
 -- What the marks say is what the attached signatures and the records say.
-pub record AreSealed (now : ObjectNow) : Type 0 where
+pub record MarksAgree (now : ObjectNow) : Type 0 where
   -- a page was found sealed by the signature that covers it, and by nothing else, and has all its slots
   pub signed : (page : ℕ) (seal : Seal) → (marks_of now.pages.marks page).validated ≡ Some seal
       → IsSomeAnd (cover_of now page) (λ attached.

@@ -3,6 +3,7 @@ use Rattle.std.specs.Prelude.{ℕ, zero, ◌≡◌, ◌+◌, ◌-◌, ◌*◌, �
 use Rattle.std.specs.List.{range_with_len, flat_map}
 use Rattle.pg_bytes.specs.Counts.{Rose}
 use Rattle.pg_digest.specs.Kinds.{Hash}
+use Rattle.pg_io.specs.declared.pager_call.PagerCall.{PagerCall}
 use Rattle.pg_io.specs.Pager.{MadeCalls}
 use Rattle.pg_cache.specs.Cache.{CacheNow, resident_page, IsSound, KeepsSizes}
 use Rattle.pg_cache.specs.Finds.{Finds}
@@ -12,7 +13,7 @@ use Rattle.pg_plain.specs.Calls.{is_whole, failed_page}
 use Rattle.pg_plain.specs.Steps.{is_reached, written_pages, cleaned}
 use Rattle.pg_object.specs.Acts.{results}
 use Rattle.pg_object.specs.Object.{resident_of}
-use Rattle.pg_object.specs.PagerCalls.{PagerCall, reached_calls, reads_of, ReadsAfter}
+use Rattle.pg_object.specs.PagerCalls.{reached_calls, Called, reads_of, ReadsAfter}
 
 -- where on a page the data begin, and the part of the data that lies on it
 abbrev pub offset_on : ℕ → ℕ → ℕ → ℕ
@@ -75,6 +76,7 @@ kinds_before cache at count page =
 
 -- All calls for the pages before this one were made, and none failed.
 pub record Went (old : CacheNow) (at count page : ℕ) (new : CacheNow) : Type 0 where
+  pub called : Called old.pager (kinds_before old at count page) new.pager
   pub reads : ReadsAfter (reads_of (kinds_before old at count page)) old.pager.reads new.pager.reads
   pub made : MadeCalls old.pager (replicate (length (calls_before old at count page)) false) new.pager
   pub faults : new.pager.faults ≡ old.pager.faults
@@ -83,6 +85,7 @@ pub record Went (old : CacheNow) (at count page : ℕ) (new : CacheNow) : Type 0
 pub record Stopped (old : CacheNow) (at count page : ℕ) (new : CacheNow) : Type 0 where
   pub outcome : ℕ
   pub made : MadeCalls old.pager (results 0 outcome) new.pager
+  pub called : Called old.pager (take outcome (kinds_before old at count page ++ kinds_on old at count page)) new.pager
   pub reads : ReadsAfter (reads_of (take outcome (kinds_before old at count page ++ kinds_on old at count page))) old.pager.reads new.pager.reads
   pub failed : failed_page (calls_before old at count page ++ calls_on old at count page) outcome ≡ Some page
   pub faults : Rose old.pager.faults new.pager.faults

@@ -3,7 +3,7 @@
 ghost use Rattle.std.specs.Prelude.{◌≡◌, [], ◌∷◌};
 ghost use Rattle.cs_policy.specs.declared.access.Access.TheVariants.{Write, Execute};
 ghost use Rattle.pg_regions.specs.Lookups.{region_of};
-ghost use Rattle.pg_plain.specs.PlainFile.{having};
+ghost use Rattle.pg_plain.specs.PlainFile.{having, writer};
 ghost use Rattle.pg_plain.specs.Verdict.{first_denial, unsigned, beyond_limit, writable_shared, verdict_without_bytes};
 ghost use Rattle.pg_object.specs.Object.{seen};
 
@@ -57,6 +57,17 @@ impl<P: Pager, D: Digester> Object<P, D> {
         self.unsealed(page)
     }
 
+    // The shared region of least number that may write a page. Of a page that is kept as checked none may, which its mark
+    // tells without a look at the records.
+    fn writer(&self, page: u64) -> Option<u32>
+        ensures { result ≡ writer (seen self.now []) page }
+    {
+        if self.pages.is_validated(page) {
+            return None;
+        }
+        self.regions.writer(page)
+    }
+
     // A signature covers the page below its limit, and no shared region may write it.
     fn unsealed(&self, page: u64) -> Option<Denial>
         ensures { result ≡ first_denial (unsigned (seen self.now []) page ∷ beyond_limit (seen self.now []) page ∷ writable_shared (seen self.now []) page ∷ []) }
@@ -68,7 +79,7 @@ impl<P: Pager, D: Digester> Object<P, D> {
         if !is_below_limit(blob, size, page) {
             return Some(Denial::BeyondLimit { page });
         }
-        match self.regions.writer(page) {
+        match self.writer(page) {
             Some(region) => Some(Denial::WritableShared { page, region }),
             None => None,
         }

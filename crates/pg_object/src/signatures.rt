@@ -5,11 +5,11 @@ ghost use Rattle.cs_blob.specs.Signed.{IsSignature};
 ghost use Rattle.cs_policy.specs.declared.file.FileEvent.TheVariants as event;
 ghost use Rattle.pg_cache.specs.Gives.{PeekLeaves};
 ghost use Rattle.pg_pages.specs.Pages.{IsMarked};
-ghost use Rattle.pg_object.specs.Kept.{IsKept};
+ghost use Rattle.pg_object.specs.Kept.{slice_range, IsKept};
 ghost use Rattle.pg_object.specs.Acts.{Acts};
 ghost use Rattle.pg_object.specs.Checked.{KeepsChecked};
 ghost use Rattle.pg_object.specs.Writes.{end_reached};
-ghost use Rattle.pg_object.specs.Reads.{HasSignature, HasNoSignature, unsigned_reply, hand_bytes, range_on, Looks, FindsPage, ReadBefore, ReadFailed};
+ghost use Rattle.pg_object.specs.Reads.{HasSignature, HasNoSignature, unsigned_reply, hand_bytes, range_on, OnlyLooks, FindsPage, ReadBefore, ReadFailed};
 
 use crate::NoMemory;
 use crate::object::Object;
@@ -32,14 +32,15 @@ impl<P: Pager, D: Digester> Object<P, D> {
     }
 
     /// Attaches a signature as that of the slice with this number. The stamps `read` and `lookup` are those at which its
-    /// bytes were read and its cdhash was looked up: they change nothing. There are fewer than 64 attached signatures, and
-    /// this one is accepted for pages as large as the file's.
+    /// bytes were read and its cdhash was looked up: they change nothing. There are fewer than 64 attached signatures, the slice
+    /// is signed, and this signature is one of the slice's range and accepted for pages as large as the file's.
     ///
     /// The answer is `Already` exactly where an attached signature is of the slice and has its cdhash, and else
     /// `Overlap` exactly where an attached one covers a page that it covers, with the least number; nothing changes then.
     /// No page is hashed.
     pub fn add_blob(&mut self, slice: u32, blob: Blob, read: u64, lookup: u64) -> FileReply
         requires room { length self.old.blobs < 64 }
+        requires slice { slice_range self.old.layout slice ≡ Some blob.slice }
         requires signed { IsSignature D.hash blob.bytes blob.slice (Some self.old.pages.cache.pager.page_size) blob }
         ensures acts { Acts D.hash self.old (event.AddBlob slice blob.cdhash read lookup) (Some blob) result self.new }
         ensures checked { KeepsChecked self.old (event.AddBlob slice blob.cdhash read lookup) result self.new }
@@ -177,7 +178,7 @@ fn read_page<P: Pager, D: Digester>(
     requires begins { page * pages.old.cache.pager.page_size < at + count }
     requires ends { at < page * pages.old.cache.pager.page_size + pages.old.cache.pager.page_size }
     ensures leaves { PeekLeaves pages.old.cache page (is_err result) pages.new.cache }
-    ensures looks { Looks D.hash pages.old pages.new }
+    ensures looks { OnlyLooks D.hash pages.old pages.new }
     ensures found { OnOk result (FindsPage pages.old.cache page (hand_bytes pages.new.cache page) pages.new.cache) }
     ensures bytes { OnOk result (bytes.new.items ≡ bytes.old.items ++ range_on pages.old.cache.pager.page_size at count page (hand_bytes pages.new.cache page)) }
     ensures long { OnOk result (vec_len bytes.new ≡ vec_len bytes.old + min (count - (page * pages.old.cache.pager.page_size - at)) (pages.old.cache.pager.page_size - (at - page * pages.old.cache.pager.page_size))) }

@@ -16,12 +16,12 @@
 //!     fetch ID PAGE AT COUNT   fetches bytes
 //!     evict PAGE               evicts a page
 
-ghost use Rattle.std.specs.Prelude.{◌+◌, ◌<◌, ◌≤◌, IfOk, IsTrue, vec_len};
+ghost use Rattle.std.specs.Prelude.{◌≡◌, ◌+◌, ◌<◌, ◌≤◌, IfOk, IsTrue, Some, vec_len};
 ghost use Rattle.pg_bytes.specs.PageSize.{is_page_size};
 ghost use Rattle.pg_digest.specs.Digests.{sha_hash};
 ghost use Rattle.pg_digest.specs.DigestLaws.{length-sha_hash};
 ghost use Rattle.pg_regions.specs.RegionsNow.{spare};
-ghost use Rattle.pg_object.specs.Kept.{IsLaid};
+ghost use Rattle.pg_object.specs.Kept.{IsLaid, slice_range};
 
 use crate::words::{access, byte, flags, is_shared, number, prot, small, told_by};
 use crate::{Object, Room};
@@ -317,7 +317,9 @@ fn attach(
 }
 
 // The range of a slice.
-fn slice_of(object: &Object<MemPager, Counting>, slice: u32) -> Result<Range, Fail> {
+fn slice_of(object: &Object<MemPager, Counting>, slice: u32) -> Result<Range, Fail>
+    ensures { IfOk result (λ range. slice_range object.now.layout slice ≡ Some range) }
+{
     let Layout::Slices(seats) = object.layout() else {
         return Err("layout".into());
     };

@@ -1,6 +1,6 @@
 //! The marks of one page.
 
-ghost use Rattle.std.specs.Prelude.{◌≡◌, ◌≤◌, ◌↔◌, IsTrue, Some, length};
+ghost use Rattle.std.specs.Prelude.{◌≡◌, ◌≤◌, ◌↔◌, IsTrue, Some, is_some, length};
 ghost use Rattle.pg_pages.specs.Marks.{seal_of, blank, sealed, after};
 
 use crate::row::Row;
@@ -50,6 +50,13 @@ impl Marking {
             tainted: false,
             writable: false,
         }
+    }
+
+    // Whether the page was found sealed.
+    pub(crate) fn is_sealed(&self) -> bool
+        ensures { result ≡ is_some self.now.validated }
+    {
+        self.validated
     }
 
     // Whether the page was found sealed by just these digests.

@@ -1,6 +1,6 @@
 //! The marks of all pages of a file.
 
-ghost use Rattle.std.specs.Prelude.{◌≡◌, ◌≤◌, ◌↔◌, IsTrue, Some, IfOk, length, replicate};
+ghost use Rattle.std.specs.Prelude.{◌≡◌, ◌≤◌, ◌↔◌, IsTrue, Some, is_some, IfOk, length, replicate};
 ghost use Rattle.pg_pages.specs.Marks.{seal_of, blank, marks_of, marked, marked_if, sealed_at};
 
 use crate::NoMemory;
@@ -33,6 +33,14 @@ impl MarkTable {
         Ok(MarkTable {
             list: blanks(alloc, pages as usize)?,
         })
+    }
+
+    // Whether a page was found sealed.
+    pub(crate) fn is_sealed(&self, page: u64) -> bool
+        ensures { result ≡ is_some (marks_of self.now page).validated }
+    {
+        let place = page as usize;
+        place < self.list.len() && self.list[place].is_sealed()
     }
 
     // Whether a page was found sealed by just these digests.

@@ -8,7 +8,7 @@ ghost use Rattle.pg_io.specs.PageBytes.{is_page_size};
 ghost use Rattle.pg_digest.specs.Kinds.{size_of};
 ghost use Rattle.pg_cache.specs.Cache.{resident_page, at_hand, contents, IsSound, KeepsSizes};
 ghost use Rattle.pg_cache.specs.Gives.{PeekLeaves, PeekGives, BringGives, PutGives, WriteGives, EvictGives};
-ghost use Rattle.pg_pages.specs.Marks.{seal_of, blank, marked, sealed_at};
+ghost use Rattle.pg_pages.specs.Marks.{seal_of, blank, marked, sealed_at, marks_of};
 ghost use Rattle.pg_pages.specs.MarkSteps.{spare_gone, peeked, kept, checked, filled, brought, written, evicted, cleared};
 ghost use Rattle.pg_pages.specs.Pages.{bytes_at_hand, Answers, Checked, hashed, IsMarked, IsValidated};
 ghost use Rattle.pg_pages.specs.declared.row.Row.TheVariants.{Changed, MapsWritable};
@@ -228,6 +228,14 @@ impl<P: Pager, D: Digester> Pages<P, D> {
         }
         self.marks.apply(page, Row::Goes);
         Ok(true)
+    }
+
+    /// Whether a page is validated: it was found sealed and has not changed since, and no writer maps it.
+    pub fn is_validated(&self, page: u64) -> bool
+        ensures validated { result ≡ is_some (marks_of self.now.marks page).validated }
+        ensures marked { IsMarked D.hash self.now.cache self.now.marks }
+    {
+        self.marks.is_sealed(page)
     }
 
     // Whether a page is resident and validated for these digests.

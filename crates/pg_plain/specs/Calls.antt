@@ -8,14 +8,13 @@ use Rattle.pg_digest.specs.Kinds.{Hash}
 use Rattle.cs_policy.specs.declared.access.Access.{Access}
 use Rattle.cs_policy.specs.declared.flags.ProcFlags.{ProcFlags}
 use Rattle.cs_policy.specs.declared.region.Region.{Region}
-use Rattle.cs_policy.specs.declared.layout.Layout.{Layout}
-use Rattle.cs_policy.specs.declared.layout.Layout.TheVariants as layout
 use Rattle.cs_policy.specs.declared.layout.SliceSeat.{SliceSeat}
 use Rattle.cs_policy.specs.declared.layout.SliceSeat.TheVariants as seat
 use Rattle.cs_policy.specs.declared.file.FileEvent.{FileEvent}
 use Rattle.cs_policy.specs.declared.file.FileEvent.TheVariants as event
 use Rattle.cs_policy.specs.Data.{data_bytes}
 use Rattle.cs_policy.specs.ProcFlags.{guarded}
+use Rattle.pg_plain.specs.Slices.{seat_in}
 use Rattle.pg_plain.specs.PlainFile.{Resident, PlainFile, region_with, has_copy, is_resident, is_dirty}
 use Rattle.pg_plain.specs.Verdict.{verdict_without_bytes, rule_of_bytes}
 use Rattle.pg_plain.specs.Given.{victim}
@@ -29,11 +28,7 @@ reached size at count = range_with_len (at / size) ((at + (count - 1)) / size + 
 
 -- the slice of this number, where the layout has slices and so many
 abbrev pub seat_of : PlainFile → ℕ → Option SliceSeat
-seat_of file slice = seat_in file.layout slice
-  where
-    seat_in : Layout → ℕ → Option SliceSeat
-    seat_in (layout.Slices seats) slice = slice_get seats slice
-    seat_in (layout.Refused refusal) slice = None
+seat_of file slice = seat_in slice file.layout
 
 -- one read of each page of the signature that is not resident
 abbrev pub signature_calls : PlainFile → Option SliceSeat → List ℕ

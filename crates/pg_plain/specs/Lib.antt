@@ -1,6 +1,7 @@
 pub mod PlainFile
 pub mod Covers
 pub mod Verdict
+pub mod Slices
 pub mod Calls
 pub mod Given
 pub mod Steps

@@ -94,6 +94,7 @@ pager_of size fails bytes = record {
   fails = fails;
   faults = 0;
   reads = 0;
+  calls = [];
 }
 
 -- the pagers of files, of which the first has this number, where these are the header lines

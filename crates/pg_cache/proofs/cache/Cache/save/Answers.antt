@@ -55,3 +55,13 @@ returns-clause-saves g c =
     let done = sym c.is_err.ensures.value ∙ c.if-is_err.false in
     let write = subst (λ (b : List ℕ). IsWrite (g.P.Pager.shows i.pager) is.entry.page false b (g.P.Pager.shows c.write_page.new.self)) is.same (write_to _ _ _ _ _ _ _ (sym is.numbered) done c.write_page.ensures) in
     saves_found _ _ _ c.args.page is.entry false c.self.view_is is.here is.is_dirty write refl
+
+pub returns-then-is_err-clause-saves : goal.returns-then-is_err-clause-saves
+returns-then-is_err-clause-saves g c =
+    let i = c.self.inside in
+    let some = subst (λ (v : CacheNow). IsSome (resident_page v c.args.page)) (sym c.self.view_is) c.requires in
+    let is = dirty_page i.store.held c.args.page c.in-Some.bytes.now some
+    (subst (λ o. IfSome (find_held i.store.held c.args.page) (λ (h : Held). ◌≡◌ {A = Option (List ℕ)} (option_map (λ bytes. bytes.now) o) (if h.dirty then Some h.bytes else None))) c.in-Some.is c.dirty_bytes.ensures) in
+    let failed = sym c.is_err.ensures.value ∙ c.if-is_err.true in
+    let write = subst (λ (b : List ℕ). IsWrite (g.P.Pager.shows i.pager) is.entry.page true b (g.P.Pager.shows c.write_page.new.self)) is.same (write_to _ _ _ _ _ _ _ (sym is.numbered) failed c.write_page.ensures) in
+    saves_found _ _ _ c.args.page is.entry true c.self.view_is is.here is.is_dirty write refl

@@ -15,6 +15,7 @@ returns-clause-read c =
       pages = search rules;
       page_size = search rules;
       reads = search rules;
+      calls = search rules;
       faults = search rules;
       outcome = search rules;
       content = λ _. get-pages_of old.page_size old.bytes c.args.page c.requires.inside ∙ ap Some (sym piece);

@@ -26,6 +26,7 @@ returns-clause-wrote c =
       pages = ap (λ (b : List _). length b / c.self.inside.page_size) now ∙ ap (λ n. n / c.self.inside.page_size) many ∙ ap (λ s. length old.bytes / s) size;
       page_size = size;
       reads = search rules;
+      calls = search rules;
       faults = search rules;
       outcome = search rules;
       told = told_of _ _ _ _ _ _ _ _ now size made fails

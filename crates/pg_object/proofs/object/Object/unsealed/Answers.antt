@@ -4,11 +4,11 @@ use Rattle.std.specs.Option.{option_copied, option_map}
 use Rattle.cs_policy.specs.declared.denial.Denial.{Denial}
 use Rattle.cs_policy.specs.declared.denial.Denial.TheVariants.{BeyondLimit, WritableShared}
 use Rattle.cs_blob.specs.Signature.{Signature}
-use Rattle.pg_plain.specs.PlainFile.{Attached}
+use Rattle.pg_plain.specs.PlainFile.{Attached, writer}
 use Rattle.pg_plain.specs.Covers.{Fits, covers, is_below_limit}
 use Rattle.pg_plain.specs.Verdict.{first_denial, unsigned, beyond_limit, writable_shared}
 use Rattle.pg_object.specs.Object.{ObjectNow, object_of, seen, cover_of}
-use Rattle.pg_object.proofs.RuleFacts.{lent, cover_covers, cover_fits, writer_is, rules_past, rules_beyond}
+use Rattle.pg_object.proofs.RuleFacts.{lent, cover_covers, cover_fits, rules_past, rules_beyond}
 use Rattle.pg_object.proofs.object.Object.unsealed.Goals as goal
 
 pub is_below_limit-requires : goal.is_below_limit-requires
@@ -60,7 +60,7 @@ returns-in-Some-writer g c =
     subst (λ (d : Option Denial). d ≡ first_denial (unsigned (seen c.args.self.now []) c.args.page ∷ beyond_limit (seen c.args.self.now []) c.args.page ∷ writable_shared (seen c.args.self.now []) c.args.page ∷ [])) answer
     (subst (λ (n : ObjectNow). option_map (λ (id : ℕ). WritableShared c.args.page id) c.writer.result ≡ first_denial (unsigned (seen n []) c.args.page ∷ beyond_limit (seen n []) c.args.page ∷ writable_shared (seen n []) c.args.page ∷ [])) c.self.view_is
     (rules_past now c.args.page one.0 c.writer.result one.1.0 below
-    (writer_is now c.args.page c.self.invariant.regions_sound c.writer.result c.writer.ensures.value c.writer.ensures.least c.writer.ensures.none)))
+    (sym (c.writer.ensures ∙ ap (λ (n : ObjectNow). writer (seen n []) c.args.page) (sym c.self.view_is)))))
 
 pub returns-in-None : goal.returns-in-None
 returns-in-None g c =
@@ -79,4 +79,4 @@ returns-in-None g c =
     subst (λ (d : Option Denial). d ≡ first_denial (unsigned (seen c.args.self.now []) c.args.page ∷ beyond_limit (seen c.args.self.now []) c.args.page ∷ writable_shared (seen c.args.self.now []) c.args.page ∷ [])) answer
     (subst (λ (n : ObjectNow). option_map (λ (id : ℕ). WritableShared c.args.page id) c.writer.result ≡ first_denial (unsigned (seen n []) c.args.page ∷ beyond_limit (seen n []) c.args.page ∷ writable_shared (seen n []) c.args.page ∷ [])) c.self.view_is
     (rules_past now c.args.page one.0 c.writer.result one.1.0 below
-    (writer_is now c.args.page c.self.invariant.regions_sound c.writer.result c.writer.ensures.value c.writer.ensures.least c.writer.ensures.none)))
+    (sym (c.writer.ensures ∙ ap (λ (n : ObjectNow). writer (seen n []) c.args.page) (sym c.self.view_is)))))
