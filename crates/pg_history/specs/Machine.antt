@@ -8,8 +8,7 @@ use Rattle.pg_bytes.specs.declared.fields.Range.{Range}
 use Rattle.pg_digest.specs.Kinds.{Hash}
 use Rattle.pg_io.specs.Calls.{first_failing, count_after}
 use Rattle.pg_book.specs.declared.receipt.Stamped.{Stamped}
-use Rattle.cs_policy.specs.declared.layout.SliceSeat.{SliceSeat}
-use Rattle.cs_policy.specs.declared.layout.SliceSeat.TheVariants as seat
+pub use Rattle.pg_plain.specs.Slices.{signed_range}
 use Rattle.cs_policy.specs.declared.file.FileEvent.{FileEvent}
 use Rattle.cs_policy.specs.declared.file.FileEvent.TheVariants as file_event
 use Rattle.cs_policy.specs.declared.file.FileReply.{FileReply}
@@ -57,12 +56,6 @@ pub record Machine : Type 0 where
   pub trust : TrustList
 
 -- ---- a file
-
--- the range of a slice of this number that is a signed image
-abbrev pub signed_range : Option SliceSeat → Option Range
-signed_range None = None
-signed_range (Some (seat.Refused refusal)) = None
-signed_range (Some (seat.Signed slice sig)) = Some slice
 
 -- the reading that has the stamp
 abbrev pub reading_at : List Reading → ℕ → Option Reading

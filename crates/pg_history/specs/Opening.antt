@@ -4,10 +4,9 @@ use Rattle.std.specs.Option.{option_map_or, option_and_then}
 use Rattle.pg_bytes.specs.PageSize.{is_page_size}
 use Rattle.pg_bytes.specs.declared.fields.Range.{Range}
 use Rattle.cs_policy.specs.declared.layout.Layout.{Layout}
-use Rattle.cs_policy.specs.declared.layout.Layout.TheVariants as layout
-use Rattle.cs_policy.specs.declared.layout.SliceSeat.{SliceSeat}
 use Rattle.pg_plain.specs.PlainFile.{opened}
 use Rattle.pg_process.specs.ProcessStep.{PlainProcess, fresh}
+pub use Rattle.pg_plain.specs.Slices.{seat_in}
 use Rattle.pg_history.specs.Machine.{FilePart, Machine, signed_range}
 
 -- What a run starts from: the size of a page, whether the scene's policy lets ad hoc signatures be attached that no trust
@@ -60,10 +59,6 @@ numbers_of o = record {
 -- the number of pages of a file, 0 where there is no such file
 abbrev pub pages_of : Numbers → ℕ → ℕ
 pages_of numbers file = option_map_or (λ known. known.pages) (slice_get numbers.files file) 0
-
-abbrev pub seat_in : ℕ → Layout → Option SliceSeat
-seat_in slice (layout.Slices seats) = slice_get seats slice
-seat_in slice (layout.Refused refusal) = None
 
 -- the range of a slice of a file, where the file has such a slice that is a signed image
 abbrev pub range_of : Numbers → ℕ → ℕ → Option Range

@@ -168,8 +168,10 @@ module _ (hash : Hash) (start : OpenedNow) (history : List Line) (now : OpenedNo
 
     pub may-ask-file : (who : Who) (a : FileCall) → IsProper hash (shown before) who number a → MayAskFile hash object a
     may-ask-file who (asked.Plain e) proper = may_plain e proper
-    may-ask-file who (asked.Attach slice blob read lookup) proper =
-        subst (λ n. IsSignature hash blob.bytes blob.slice (Some n) blob) (sym same-size) proper.signed
+    may-ask-file who (asked.Attach slice blob read lookup) proper = record {
+      range = sym (same-range slice) ∙ proper.range;
+      signed = subst (λ n. IsSignature hash blob.bytes blob.slice (Some n) blob) (sym same-size) proper.signed;
+    }
 
     placed_file : IsPlaceIn numbers (place.File number)
     placed_file = let a = within-of start.files number declared_old.0 declared_old.1 in let b = length-numbers start.files in omega (arith, a, b)

@@ -1,5 +1,5 @@
 -- What may be asked of an object, a process and the trust list.
-use Rattle.std.specs.Prelude.{◌≡◌, ◌<◌, Option, Some, None, length}
+use Rattle.std.specs.Prelude.{ℕ, ◌≡◌, ◌<◌, Option, Some, None, length}
 use Rattle.pg_digest.specs.Kinds.{Hash}
 use Rattle.cs_policy.specs.declared.file.FileEvent.{FileEvent}
 use Rattle.cs_policy.specs.declared.file.FileEvent.TheVariants as file
@@ -11,6 +11,7 @@ use Rattle.cs_blob.specs.Signature.{Signature}
 use Rattle.cs_blob.specs.Signed.{IsSignature}
 use Rattle.pg_object.specs.Object.{ObjectNow}
 use Rattle.pg_object.specs.Acts.{Acts}
+use Rattle.pg_plain.specs.Slices.{slice_range}
 use Rattle.pg_object.specs.Kept.{IsInside}
 use Rattle.pg_process.specs.ProcessStep.{PlainProcess}
 use Rattle.pg_trusted.specs.TrustStep.{TrustList}
@@ -28,11 +29,15 @@ MayAskPlain object (file.Load id page at count resolve) = StaysInPage object.pag
 MayAskPlain object (file.Fetch id page at count resolve) = StaysInPage object.pages.cache.pager.page_size at count
 MayAskPlain object e = Unit {0}
 
--- the same, or a signature that is accepted for pages as large as the file's
+-- A signature that may be attached: it is one of the slice's range, and accepted for pages as large as the file's.
+pub record MayAttach (hash : Hash) (object : ObjectNow) (slice : ℕ) (blob : Signature) : Type 0 where
+  pub range : slice_range object.layout slice ≡ Some blob.slice
+  pub signed : IsSignature hash blob.bytes blob.slice (Some object.pages.cache.pager.page_size) blob
+
+-- an event that attaches none, or a signature that may be attached
 abbrev pub MayAskFile : Hash → ObjectNow → FileCall → Type 0
 MayAskFile hash object (asked.Plain e) = MayAskPlain object e
-MayAskFile hash object (asked.Attach slice blob read lookup) =
-    IsSignature hash blob.bytes blob.slice (Some object.pages.cache.pager.page_size) blob
+MayAskFile hash object (asked.Attach slice blob read lookup) = MayAttach hash object slice blob
 
 -- the signature that is attached
 abbrev pub signature_in : FileCall → Option Signature

@@ -1,7 +1,6 @@
 //! One part is asked.
 
 ghost use Rattle.std.specs.Prelude.{◌≡◌, ◌<◌, None, Some, length, IfOk, IsErr, OnErr};
-ghost use Rattle.cs_blob.specs.Signed.{IsSignature};
 ghost use Rattle.cs_policy.specs.Entry.{HoldsReplyBytes};
 ghost use Rattle.pg_object.specs.Acts.{Acts};
 ghost use Rattle.pg_object.specs.Kept.{IsKept};
@@ -12,7 +11,7 @@ ghost use Rattle.pg_history.specs.Machine.{slice_read};
 ghost use Rattle.pg_calls.specs.Room.{file_uses};
 ghost use Rattle.pg_calls.specs.Asking.{event_of, TakesMemory};
 ghost use Rattle.pg_parts.specs.Opened.{HasSpare};
-ghost use Rattle.pg_parts.specs.Asking.{MayAskPlain, MayAskFile, AsksFile, MayAskProcess, MayAskTrust};
+ghost use Rattle.pg_parts.specs.Asking.{MayAskPlain, MayAttach, MayAskFile, AsksFile, MayAskProcess, MayAskTrust};
 
 use crate::NoMemory;
 use cs_blob::Blob;
@@ -166,7 +165,7 @@ fn attach<P: Pager, D: Digester>(
     read: u64,
     lookup: u64,
 ) -> (FileAnswer, FileAnswer)
-    requires may { IsSignature D.hash blob.bytes blob.slice (Some object.old.pages.cache.pager.page_size) blob }
+    requires may { MayAttach D.hash object.old slice blob }
     requires room { length object.old.blobs < 64 }
     ensures event { result.0.event ≡ event.AddBlob slice blob.cdhash read lookup }
     ensures acts { Acts D.hash object.old (event.AddBlob slice blob.cdhash read lookup) (Some blob)

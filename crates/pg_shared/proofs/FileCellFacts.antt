@@ -99,8 +99,10 @@ module _ (hash : Hash) (plan : Plan) (object : ObjectNow) (spine : SpineOf Entry
 
   pub may-ask-file : (a : FileCall) → IsProper hash (shown plan pass) who number a → MayAskFile hash object a
   may-ask-file (asked.Plain e) proper = may_plain e proper
-  may-ask-file (asked.Attach slice blob read lookup) proper =
-      subst (λ n. IsSignature hash blob.bytes blob.slice (Some n) blob) (sym same_size) proper.signed
+  may-ask-file (asked.Attach slice blob read lookup) proper = record {
+    range = sym (same_range slice) ∙ proper.range;
+    signed = subst (λ n. IsSignature hash blob.bytes blob.slice (Some n) blob) (sym same_size) proper.signed;
+  }
 
   module _ (met : PassOf Entry) (meets : Meets spine pass met) (e : FileEvent) (room : parts.HasRoom (shown plan pass) who (place.File number) (event.File e)) where
     pub spare-for : HasSpare object (file_uses e)
