@@ -13,7 +13,8 @@ use Rattle.pg_words.proofs.NumeralFacts.{number_again}
 use Rattle.pg_words.proofs.PlainFacts.{decimal_is_word}
 use Rattle.pg_report.specs.declared.line.Line.{Line}
 use Rattle.pg_report.specs.Journal.{entry_words, entry_text, is_given, is_denied, summary_text}
-use Rattle.pg_report.specs.Reading.{line_said, line_of, counted, ended, is_wanted, sum_line, last_sums, sums_of, sums, said_behind, said, line_text_of, text_of}
+use Rattle.pg_report.specs.Reading.{line_said, line_of, counted, ended, is_wanted, sum_line, last_sums, sums_of, sums, said_behind, said}
+use Rattle.pg_report.specs.Grammar.{line_text_of, text_of}
 use Rattle.pg_report.proofs.EndFacts.{ended_lines}
 use Rattle.pg_report.proofs.LineFacts.{event_said, no_event}
 
@@ -32,10 +33,10 @@ AllSayThemselves due (l ∷ lines) = SaysItself due l × AllSayThemselves (due +
 -- ---- a line that counts
 
 -- its words
-abbrev pair : List ℕ → ℕ → List (List ℕ)
+abbrev pub pair : List ℕ → ℕ → List (List ℕ)
 pair word n = word ∷ decimal n ∷ []
 
-pair_words : (word : List ℕ) (n : ℕ) → is_word word ≡ true → n < 2 ^ 64 → AreWords (pair word n)
+pub pair_words : (word : List ℕ) (n : ℕ) → is_word word ≡ true → n < 2 ^ 64 → AreWords (pair word n)
 pair_words word n w lt = (w, (decimal_is_word n lt, tt))
 
 counted_again : (word : List ℕ) (n : ℕ) → n < 2 ^ 64 → counted word (pair word n) ≡ Some n
@@ -48,7 +49,7 @@ sum_again line word wanted n texts w lt is more =
     rw (more, words_of_line (pair word n) (omega arith) (pair_words word n w lt), counted_again word n lt, is) refl
 
 -- a text that begins with such a line
-begun : (word : List ℕ) (n : ℕ) (rest : List ℕ) → is_word word ≡ true → n < 2 ^ 64 → lines_of (line_text (pair word n) ++ 10 ∷ rest) ≡ line_text (pair word n) ∷ lines_of rest
+pub begun : (word : List ℕ) (n : ℕ) (rest : List ℕ) → is_word word ≡ true → n < 2 ^ 64 → lines_of (line_text (pair word n) ++ 10 ∷ rest) ≡ line_text (pair word n) ∷ lines_of rest
 begun word n rest w lt = first_line (line_text (pair word n)) rest (line_is_text (pair word n) (pair_words word n w lt))
 
 -- the four lines
@@ -76,6 +77,19 @@ module _ (events calls given denied : ℕ) (e : events < 2 ^ 64) (c : calls < 2 
         sum_again (events + 4) (codes "denied") (Some denied) denied (lines_of []) refl d (eq-eqb denied denied refl) (ended_lines []),
         no_line,
       ) refl
+
+  -- the lines of the four, and what is behind the last LF
+  pub four_lines : lines_of (summary_text events calls given denied)
+      ≡ line_text (pair (codes "events") events) ∷ line_text (pair (codes "calls") calls) ∷ line_text (pair (codes "given") given) ∷ line_text (pair (codes "denied") denied) ∷ [] ∷ []
+  unfolding second third fourth
+  four_lines =
+      ap lines_of summary_lines ∙ begun (codes "events") events second refl e
+      ∙ ap (λ (r : List (List ℕ)). line_text (pair (codes "events") events) ∷ r)
+      (begun (codes "calls") calls third refl c
+      ∙ ap (λ (r : List (List ℕ)). line_text (pair (codes "calls") calls) ∷ r)
+      (begun (codes "given") given fourth refl g
+      ∙ ap (λ (r : List (List ℕ)). line_text (pair (codes "given") given) ∷ r)
+      (begun (codes "denied") denied [] refl d ∙ ap (λ (r : List (List ℕ)). line_text (pair (codes "denied") denied) ∷ r) no_line)))
 
   pub sums_again : sums_of events given denied (lines_of (summary_text events calls given denied)) ≡ Ok calls
   unfolding sums_of second
@@ -121,12 +135,12 @@ module _ (lines : List Line) (calls : ℕ) (few : length lines < 2 ^ 64) (c : ca
       ∙ rw (sums_again (length lines) calls _ _ few c g d) refl
 
 -- the text of some lines, before the lines that sum up
-rest_text : List Line → List ℕ → List ℕ
+abbrev pub rest_text : List Line → List ℕ → List ℕ
 rest_text lines tail = flat_map line_text_of lines ++ tail
 
-line_again : (l : Line) (lines : List Line) (tail : List ℕ) → AreWords (entry_words l.stamp l.read l.entry)
+pub line_again : (l : Line) (lines : List Line) (tail : List ℕ) → AreWords (entry_words l.stamp l.read l.entry)
     → lines_of (rest_text (l ∷ lines) tail) ≡ line_text (entry_words l.stamp l.read l.entry) ∷ lines_of (rest_text lines tail)
-unfolding rest_text entry_text
+unfolding entry_text
 line_again l lines tail words =
     let text = line_text (entry_words l.stamp l.read l.entry) in
     ap lines_of (ap (λ (t : List ℕ). t ++ tail) (flat_map-cons line_text_of l lines) ∙ append_assoc (text ++ codes "\n") (flat_map line_text_of lines) tail
@@ -135,7 +149,6 @@ line_again l lines tail words =
 
 behind_again : (lines above : List Line) (tail : List ℕ) (total : Said) → AllSayThemselves (length above) lines → said_behind (above ++ lines) (lines_of tail) ≡ total
     → said_behind above (lines_of (rest_text lines tail)) ≡ total
-unfolding rest_text
 behind_again [] above tail total all so = ap (λ (x : List Line). said_behind x (lines_of tail)) (sym (append-nil above)) ∙ so
 behind_again (l ∷ lines) above tail total all so =
     let words = entry_words l.stamp l.read l.entry in
@@ -147,6 +160,6 @@ behind_again (l ∷ lines) above tail total all so =
     (ap (λ (x : List Line). said_behind x (lines_of tail)) (append_assoc above (l ∷ []) lines) ∙ so)
 
 pub said_again : (lines : List Line) (calls : ℕ) (text : List ℕ) → length lines < 2 ^ 64 → calls < 2 ^ 64 → AllSayThemselves 0 lines → text ≡ text_of lines calls → said text ≡ Ok (lines, calls)
-unfolding said text_of rest_text tail
+unfolding said text_of tail
 said_again lines calls text few c all is =
     ap (λ (t : List ℕ). said_behind [] (lines_of t)) is ∙ behind_again lines [] (tail lines calls few c) (Ok (lines, calls)) all (end_again lines calls few c)

@@ -18,9 +18,9 @@ use Rattle.pg_report.specs.declared.words.ReplyWord.{ReplyWord}
 use Rattle.pg_report.specs.declared.words.ReplyWord.TheVariants as key
 use Rattle.pg_report.specs.Words.{denial_word, denial_keyword, reply_word, reply_keyword}
 use Rattle.pg_report.specs.Forms.{long, short, only, few_bytes, refusal_form}
-use Rattle.pg_report.specs.Denials.{denial_words}
+use Rattle.pg_report.specs.Denials.{denial_words, denial_row, denial_of}
 use Rattle.pg_report.specs.Replies.{trust_reply_words}
-use Rattle.pg_report.specs.ReplyRows.{denial_row, denial_of, trust_reply_row}
+use Rattle.pg_report.specs.ReplyRows.{trust_reply_row}
 use Rattle.pg_report.specs.Reading.{is_arrow}
 use Rattle.pg_report.specs.Fits.{DenialFits, TrustReplyFits}
 use Rattle.pg_report.proofs.FormAgain.{short_again}

@@ -6,7 +6,7 @@ use Rattle.std.proofs.lemmas.List.Splits.{join_with_byte-slice_split}
 use Rattle.pg_words.specs.Names.{file_text}
 use Rattle.pg_words.proofs.HexFacts.{map_takes}
 use Rattle.pg_words.proofs.NameFacts.{chosen, is_word_text}
-use Rattle.pg_report.specs.Replies.{bit_files, files_text}
+use Rattle.pg_report.specs.Forms.{bit_files, files_text}
 use Rattle.pg_report.specs.Forms.{file_form, bits_form, files_form}
 use Rattle.pg_report.proofs.EndFacts.{ended_split}
 use Rattle.pg_report.specs.Reading.{ended}

@@ -5,7 +5,8 @@ use Rattle.pg_words.specs.Lines.{spaced, line_text}
 use Rattle.cs_policy.specs.declared.entry.Entry.{Entry}
 use Rattle.pg_report.specs.Events.{event_words}
 use Rattle.pg_report.specs.Replies.{reply_words}
-use Rattle.pg_report.specs.Journal.{who_text, place_text, entry_words, entry_text}
+use Rattle.pg_report.specs.Forms.{who_text, place_text}
+use Rattle.pg_report.specs.Journal.{entry_words, entry_text}
 use Rattle.pg_report.proofs.SpaceFacts.{spaced_behind, line_spaced}
 
 pub entry_made : (old : List ℕ) (stamp read : ℕ) (entry : Entry)

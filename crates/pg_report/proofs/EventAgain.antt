@@ -21,7 +21,7 @@ use Rattle.pg_report.specs.declared.words.TrustWord.{TrustWord}
 use Rattle.pg_report.specs.declared.words.TrustWord.TheVariants as trust_key
 use Rattle.pg_report.specs.Words.{file_word, proc_word, trust_word, file_keyword, proc_keyword, trust_keyword}
 use Rattle.pg_report.specs.Forms.{long, short, process_form, cache_form, address_form, stamp_form, flags_form, cdhash_form, few_bytes, data_form, refusal_form}
-use Rattle.pg_report.specs.EventRows.{file_event_row, proc_event_row, trust_event_row, file_event_of, proc_event_of, trust_event_of, event_of, region_row, insert_row}
+use Rattle.pg_report.specs.EventRows.{file_event_row, proc_event_row, trust_event_row, file_event_of, proc_event_of, trust_event_of, event_of}
 use Rattle.pg_report.specs.Events.{file_event_words, proc_event_words, trust_event_words, event_words}
 use Rattle.pg_report.specs.Reading.{is_arrow}
 use Rattle.pg_report.specs.Fits.{FileEventFits, ProcEventFits, TrustEventFits, EventFits}
@@ -51,7 +51,6 @@ file_keyed k words e r =
     record { says = ap (option_and_then (λ key. file_event_row key words)) key.0 ∙ r.says; are = (key.1, r.are); plain = (key.2, r.plain) }
 
 file_event_again : (e : FileEvent) → FileEventFits e → Row file_event_of (file_event_words e) e
-unfolding region_row
 file_event_again (file.ReadSignature slice) f = file_keyed file_key.ReadSignature _ _ (row1_of short (λ s. file.ReadSignature s) (short_col slice f))
 file_event_again (file.AddBlob slice cdhash read lookup) f =
     file_keyed file_key.AddBlob _ _ (row4_of short cdhash_form stamp_form stamp_form (λ s c r l. file.AddBlob s c r l) (short_col slice f.0) (cdhash_col cdhash f.1) (stamp_col read f.2) (stamp_col lookup f.3))
@@ -102,7 +101,6 @@ proc_keyed k words e r =
     record { says = ap (option_and_then (λ key. proc_event_row key words)) key.0 ∙ r.says; are = (key.1, r.are); plain = (key.2, r.plain) }
 
 proc_event_again : (e : ProcEvent) → ProcEventFits e → Row proc_event_of (proc_event_words e) e
-unfolding insert_row
 proc_event_again proc.Start f = proc_keyed proc_key.Start _ _ (row0_of proc.Start)
 proc_event_again (proc.Insert at file file_pages first pages prot shared) f =
     let a = addr_col at f.0 in

@@ -24,20 +24,11 @@ use Rattle.pg_report.specs.declared.words.TrustWord.TheVariants as trust_key
 use Rattle.pg_report.specs.Words.{file_keyword, file_words, file_word, proc_keyword, proc_words, proc_word, trust_keyword, trust_words, trust_word}
 use Rattle.pg_report.specs.Forms.{long, short, file_form, process_form, address_form, stamp_form}
 use Rattle.pg_report.specs.Events.{file_event_words, proc_event_words, trust_event_words, event_words}
-use Rattle.pg_report.specs.EventRows.{region_made, region_row, insert_row, file_event_row, proc_event_row, trust_event_row, file_event_of, proc_event_of, trust_event_of, event_of}
-use Rattle.pg_report.proofs.TookFacts.{bind_some, some_is, took0, took1, took2, took4, took5, long_took, short_took, process_took, file_took, cache_took, address_took, stamp_took, cdhash_took, data_took, few_took, flags_took, prot_took, share_took, access_took, refusal_took}
+use Rattle.pg_report.specs.EventTable.{region_made, add_region, insert}
+use Rattle.pg_report.specs.EventRows.{file_event_row, proc_event_row, trust_event_row, file_event_of, proc_event_of, trust_event_of, event_of}
+use Rattle.pg_report.proofs.TookFacts.{named_is, bind_some, some_is, took0, took1, took2, took4, took5, long_took, short_took, process_took, file_took, cache_took, address_took, stamp_took, cdhash_took, data_took, few_took, flags_took, prot_took, share_took, access_took, refusal_took}
 
--- a word that is found in a table is the text there
-pub named_is : {K : Type 0} (text : K → List ℕ) (keys : List K) (word : List ℕ) (key : K) → named text keys word ≡ Some key → word ≡ text key
-named_is text [] word key e = absurd cc
-named_is text (first ∷ keys) word key e = by (bytes_eq word (text first)) refl e (named_is text keys word key)
-  where
-    by : (t : Bool) → bytes_eq word (text first) ≡ t → cond t (Some first) (named text keys word) ≡ Some key → (named text keys word ≡ Some key → word ≡ text key) → word ≡ text key
-    by true t e more = is_word_text word (text first) t ∙ ap text (some_is first key e)
-    by false t e more = more e
-
-region_took : (ws : List (List ℕ)) (x : FileEvent) → region_row ws ≡ Some x → file_event_words x ≡ file_keyword file_key.AddRegion ∷ ws
-unfolding region_row
+region_took : (ws : List (List ℕ)) (x : FileEvent) → add_region.says ws ≡ Some x → file_event_words x ≡ file_keyword file_key.AddRegion ∷ ws
 region_took [] x e = absurd cc
 region_took (a ∷ []) x e = absurd cc
 region_took (a ∷ b ∷ []) x e = absurd cc
@@ -58,8 +49,7 @@ region_took (a ∷ b ∷ c ∷ d ∷ f ∷ g ∷ h ∷ []) x e =
     ∷ sym (long_took.is d l.0 l.1) k ∷ sym (prot_took.is f r.0 r.1) k ∷ sym (share_took.is g s.0 s.1) k ∷ sym (stamp_took.is h t.0 t.1) k ∷ [])
 region_took (a ∷ b ∷ c ∷ d ∷ f ∷ g ∷ h ∷ j ∷ ws) x e = absurd cc
 
-insert_took : (ws : List (List ℕ)) (x : ProcEvent) → insert_row ws ≡ Some x → proc_event_words x ≡ proc_keyword proc_key.Insert ∷ ws
-unfolding insert_row
+insert_took : (ws : List (List ℕ)) (x : ProcEvent) → insert.says ws ≡ Some x → proc_event_words x ≡ proc_keyword proc_key.Insert ∷ ws
 insert_took [] x e = absurd cc
 insert_took (a ∷ []) x e = absurd cc
 insert_took (a ∷ b ∷ []) x e = absurd cc

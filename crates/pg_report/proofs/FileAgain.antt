@@ -8,8 +8,10 @@ use Rattle.cs_policy.specs.declared.file.FileReply.TheVariants as told
 use Rattle.pg_report.specs.declared.words.ReplyWord.{ReplyWord}
 use Rattle.pg_report.specs.declared.words.ReplyWord.TheVariants as key
 use Rattle.pg_report.specs.Forms.{long, short, few_bytes, refusal_form}
-use Rattle.pg_report.specs.Replies.{victim_words, violation_words, file_reply_words}
-use Rattle.pg_report.specs.ReplyRows.{plainly, violation_of, victim_of, given_of, signature_row, file_reply_row}
+use Rattle.pg_report.specs.Denials.{violation_words, violation_of}
+use Rattle.pg_report.specs.ReplyTable.{victim_words, victim_of, given_of}
+use Rattle.pg_report.specs.Replies.{file_reply_words}
+use Rattle.pg_report.specs.ReplyRows.{plainly, signature_row, file_reply_row}
 use Rattle.pg_report.specs.ReplyRows as rows
 use Rattle.pg_report.specs.Fits.{SignatureFits, BlobFits, RefuseFits, WriteFits, AddFits, DropFits, DropAllFits, VictimFits, ViolationFits, EnterFits, StoreFits, LoadFits, EvictFits, FileReplyFits}
 use Rattle.pg_report.proofs.RowAgain.{Row, row0_of, row1_of, long_col, short_col, few_col, refusal_col}
@@ -286,11 +288,14 @@ told_plainly row r n is a =
     subst (λ (m : ℕ). Answered (λ k ws. option_map plainly (row k ws)) (file_reply_words m r) (r, m)) (sym is)
     (record { key = a.key; rest = a.rest; is = a.is; reads = record { says = ap (option_map plainly) a.reads.says; are = a.reads.are; plain = a.reads.plain } })
 
+plainly_of : {row : List (List ℕ) → Option FileReply} {ws : List (List ℕ)} {r : FileReply} → Row row ws r → Row (λ ws. option_map plainly (row ws)) ws (plainly r)
+plainly_of c = record { says = ap (option_map plainly) c.says; are = c.are; plain = c.plain }
+
 signature_again : (r : FileReply) (n : ℕ) → SignatureFits r n → Answered signature_row (file_reply_words n r) (r, n)
-signature_again (told.NoSlices x) n f = subst (λ (m : ℕ). Answered signature_row (file_reply_words m (told.NoSlices x)) (told.NoSlices x, m)) (sym f.1) (record { key = key.NoSlices; rest = _; is = refl; reads = row1_of refusal_form (λ y. (told.NoSlices y, 0)) (refusal_col x f.0) })
-signature_again (told.NoSlice c) n f = subst (λ (m : ℕ). Answered signature_row (file_reply_words m (told.NoSlice c)) (told.NoSlice c, m)) (sym f.1) (record { key = key.NoSlice; rest = _; is = refl; reads = row1_of short (λ y. (told.NoSlice y, 0)) (short_col c f.0) })
-signature_again (told.NoImage x) n f = subst (λ (m : ℕ). Answered signature_row (file_reply_words m (told.NoImage x)) (told.NoImage x, m)) (sym f.1) (record { key = key.NoImage; rest = _; is = refl; reads = row1_of refusal_form (λ y. (told.NoImage y, 0)) (refusal_col x f.0) })
-signature_again (told.PagerFault page) n f = subst (λ (m : ℕ). Answered signature_row (file_reply_words m (told.PagerFault page)) (told.PagerFault page, m)) (sym f.1) (record { key = key.PagerFault; rest = _; is = refl; reads = row1_of long (λ y. (told.PagerFault y, 0)) (long_col page f.0) })
+signature_again (told.NoSlices x) n f = subst (λ (m : ℕ). Answered signature_row (file_reply_words m (told.NoSlices x)) (told.NoSlices x, m)) (sym f.1) (record { key = key.NoSlices; rest = _; is = refl; reads = plainly_of (row1_of refusal_form (λ y. told.NoSlices y) (refusal_col x f.0)) })
+signature_again (told.NoSlice c) n f = subst (λ (m : ℕ). Answered signature_row (file_reply_words m (told.NoSlice c)) (told.NoSlice c, m)) (sym f.1) (record { key = key.NoSlice; rest = _; is = refl; reads = plainly_of (row1_of short (λ y. told.NoSlice y) (short_col c f.0)) })
+signature_again (told.NoImage x) n f = subst (λ (m : ℕ). Answered signature_row (file_reply_words m (told.NoImage x)) (told.NoImage x, m)) (sym f.1) (record { key = key.NoImage; rest = _; is = refl; reads = plainly_of (row1_of refusal_form (λ y. told.NoImage y) (refusal_col x f.0)) })
+signature_again (told.PagerFault page) n f = subst (λ (m : ℕ). Answered signature_row (file_reply_words m (told.PagerFault page)) (told.PagerFault page, m)) (sym f.1) (record { key = key.PagerFault; rest = _; is = refl; reads = plainly_of (row1_of long (λ y. told.PagerFault y) (long_col page f.0)) })
 signature_again (told.Read bytes) n f = subst (λ (b : List ℕ). Answered signature_row (file_reply_words n (told.Read b)) (told.Read b, n)) (sym f.0) (record { key = key.Read; rest = _; is = refl; reads = row1_of long (λ y. (told.Read [], y)) (long_col n f.1) })
 signature_again (told.Already c) n f = elim f [ ]
 signature_again (told.Overlap c) n f = elim f [ ]

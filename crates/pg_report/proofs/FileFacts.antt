@@ -4,7 +4,7 @@ use Rattle.std.specs.List.{join_with_byte}
 use Rattle.std.proofs.lemmas.Bool.{eq-eqb, ne_eqb}
 use Rattle.std.proofs.lemmas.List.{append-nil}
 use Rattle.pg_words.specs.Names.{file_text}
-use Rattle.pg_report.specs.Replies.{bit_files}
+use Rattle.pg_report.specs.Forms.{bit_files}
 use Rattle.pg_report.specs.ReplyParts.{comma_unless, behind_names, listed}
 
 -- names in a row are the first one and those that follow it

@@ -13,7 +13,7 @@ use Rattle.pg_words.specs.Names.{file_text}
 use Rattle.pg_words.specs.Lines.{is_word}
 use Rattle.pg_words.proofs.LineFacts.{list_all-append}
 use Rattle.pg_words.proofs.PlainFacts.{decimal_is_word}
-use Rattle.pg_report.specs.Replies.{bit_files, files_text}
+use Rattle.pg_report.specs.Forms.{bit_files, files_text}
 use Rattle.pg_report.specs.Forms.{file_form, bits_form, files_form}
 use Rattle.pg_report.proofs.FormAgain.{file_again, number_apart}
 

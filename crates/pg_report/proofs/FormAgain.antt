@@ -1,5 +1,5 @@
 -- A word as it is printed says what is printed.
-use Rattle.std.proofs.Common.{◌≡◌, ℕ, zero, suc, ◌/◌, ◌^◌, ◌<◌, ◌≤◌, ◌==◌, Bool, true, false, List, [], ◌∷◌, ◌++◌, length, Some, refl, ap, sym, ◌∙◌, arith, All}
+use Rattle.std.proofs.Common.{codes, None, ◌≡◌, ℕ, zero, suc, ◌/◌, ◌^◌, ◌<◌, ◌≤◌, ◌==◌, Bool, true, false, List, [], ◌∷◌, ◌++◌, length, Some, refl, ap, sym, ◌∙◌, arith, All}
 use Rattle.std.specs.List.{list_all, slice_split}
 use Rattle.std.specs.Char.{is_ascii_digit, is_ascii_graphic}
 use Rattle.std.specs.Fmt.{decimal}
@@ -19,16 +19,15 @@ use Rattle.cs_policy.specs.declared.refusal.Refusal.{Refusal}
 use Rattle.cs_policy.specs.Refusal.{family_name, refusal_text}
 use Rattle.pg_words.specs.Numbers.{address_text, has_lead}
 use Rattle.pg_words.specs.Digits.{flags_text}
-use Rattle.pg_words.specs.Names.{file_text, process_text, cache_text}
+use Rattle.pg_words.specs.Names.{name_word, file_text, process_text, cache_text}
 use Rattle.pg_words.specs.Lines.{is_word}
 use Rattle.pg_words.proofs.PlainFacts.{decimal_is_word, hex_is_word}
 use Rattle.pg_words.proofs.LineFacts.{list_all-append}
 use Rattle.pg_words.proofs.NumeralFacts.{number_again, address_again, base10, printed_numeral}
 use Rattle.pg_words.proofs.NameFacts.{name_again}
 use Rattle.pg_words.proofs.HexFacts.{hex_again, bytes_again, flags_again}
-use Rattle.pg_report.specs.Denials.{stamp_text}
+use Rattle.pg_report.specs.Forms.{stamp_text, who_text, place_text}
 use Rattle.pg_report.specs.Fits.{PlaceFits, RefusalFits, FewBytes, IsCdhash}
-use Rattle.pg_report.specs.Journal.{place_text, who_text}
 use Rattle.pg_report.specs.Forms.{long, short, tiny, file_form, process_form, cache_form, address_form, stamp_form, cdhash_form, flags_form, few_bytes, place_form, who_form, family_form, refusal_form}
 
 pub long_again : (n : ℕ) → n < 2 ^ 64 → long (decimal n) ≡ Some n
@@ -62,11 +61,19 @@ pub few_again : (most : ℕ) (bytes : List ℕ) → FewBytes most bytes → few_
 unfolding few_bytes
 few_again most bytes f = rw (hex_again bytes f.are f.some, le-leb (length bytes) most f.few) refl
 
+trust_named : place_form (codes "t") ≡ Some place.Trust
+unfolding place_form name_word
+trust_named = refl
+
+file_no_process : (n : ℕ) → file_form (process_text n) ≡ None
+unfolding name_word
+file_no_process n = refl
+
 pub place_again : (p : Place) → PlaceFits p → place_form (place_text p) ≡ Some p
 unfolding place_form
-place_again (place.File f) lt = rw (short_again f lt) refl
-place_again (place.Process p) lt = rw (short_again p lt) refl
-place_again place.Trust lt = refl
+place_again (place.File f) lt = rw (file_again f lt) refl
+place_again (place.Process p) lt = rw (file_no_process p, process_again p lt) refl
+place_again place.Trust lt = trust_named
 
 pub flag_again : (f : ProcFlags) → number_of f < 2 ^ 32 → flags_form (flags_text (number_of f)) ≡ Some f
 flag_again f lt = rw (flags_again (number_of f) lt) refl

@@ -19,3 +19,7 @@ pub mod LineAgain
 pub mod FilesAgain
 pub mod ProcAgain
 pub mod FileAgain
+pub mod FormFits
+pub mod EventFits
+pub mod ReplyFits
+pub mod FirstBad

@@ -12,13 +12,11 @@ use Rattle.pg_report.specs.declared.line.Line.{Line}
 use Rattle.pg_report.specs.declared.words.ReplyWord.{ReplyWord}
 use Rattle.pg_report.specs.Events.{event_words}
 use Rattle.pg_report.specs.Replies.{proc_reply_words, trust_reply_words, reply_words}
-use Rattle.pg_report.specs.ReplyRows.{Told, file_reply_row, proc_reply_row, trust_reply_row, reply_row, reply_of}
-use Rattle.pg_report.specs.Reading.{with_word, at_arrow, line_said, said, text_of}
+use Rattle.pg_report.specs.ReplyTable.{Told}
+use Rattle.pg_report.specs.ReplyRows.{file_reply_row, proc_reply_row, trust_reply_row, reply_row, reply_of}
+use Rattle.pg_report.specs.Reading.{with_word, at_arrow, line_said}
 use Rattle.pg_report.specs.Fits.{ReplyFits, LineFits, LinesFit}
-use Rattle.std.specs.Global.{Vec}
-use Rattle.pg_report.specs.Answers.{Reads}
-use Rattle.pg_report.specs.declared.line.JournalFail.{JournalFail}
-use Rattle.pg_report.proofs.AgainFacts.{SaysItself, AllSayThemselves, said_again}
+use Rattle.pg_report.proofs.AgainFacts.{SaysItself, AllSayThemselves}
 use Rattle.pg_report.proofs.FormAgain.{long_again, who_again, place_again, who_is_word, place_is_word}
 use Rattle.pg_report.proofs.RowAgain.{ArePlain}
 use Rattle.pg_report.proofs.EventAgain.{event_again}
@@ -76,9 +74,3 @@ line_again due l f =
 pub all_again : (due : ℕ) (lines : List Line) → LinesFit due lines → AllSayThemselves due lines
 all_again due [] f = tt
 all_again due (l ∷ lines) f = (line_again due l f.0, all_again (due + 1) lines f.1)
-
--- what is read is what was printed
-pub is_again : (text : List ℕ) (r : Result (Vec Line × ℕ) JournalFail) → Reads (λ (j : Vec Line × ℕ). (j.0.items, j.1)) r (said text)
-    → (lines : List Line) (calls : ℕ) → length lines < 2 ^ 64 → calls < 2 ^ 64 → LinesFit 0 lines → text ≡ text_of lines calls
-    → Reads {Y = List Line × ℕ} (λ (j : Vec Line × ℕ). (j.0.items, j.1)) r (Ok (lines, calls))
-is_again text r read lines calls few c fit is = subst (λ (s : Result (List Line × ℕ) ℕ). Reads (λ (j : Vec Line × ℕ). (j.0.items, j.1)) r s) (said_again lines calls text few c (all_again 0 lines fit) is) read

@@ -7,7 +7,8 @@ use Rattle.cs_policy.specs.declared.process.ProcReply.TheVariants as answer
 use Rattle.pg_words.specs.Names.{name_word}
 use Rattle.pg_report.specs.declared.words.ReplyWord.TheVariants as key
 use Rattle.pg_report.specs.Forms.{long, short, only, file_form, process_form, flags_form, files_form, bits_form}
-use Rattle.pg_report.specs.Replies.{bit_files, files_text, proc_reply_words}
+use Rattle.pg_report.specs.Replies.{proc_reply_words}
+use Rattle.pg_report.specs.Forms.{bit_files, files_text}
 use Rattle.pg_report.specs.ReplyRows.{start_row, insert_row, resolve_row, remove_row, debug_row, punish_row, clear_row, exit_row, proc_reply_row}
 use Rattle.pg_report.specs.Fits.{StartFits, InsertFits, ResolveFits, RemoveFits, DebugFits, PunishFits, ClearFits, ExitFits, ProcReplyFits}
 use Rattle.pg_report.proofs.RowAgain.{Col, col, row0_of, row1_of, row2_of, row4_of, long_col, short_col, file_col, process_col, flags_col}

@@ -30,12 +30,12 @@ use Rattle.pg_report.specs.declared.words.ReplyWord.{ReplyWord}
 use Rattle.pg_report.specs.declared.words.ReplyWord.TheVariants as key
 use Rattle.pg_report.specs.Words.{denial_keyword, denial_words as denial_keys, denial_word, reply_keyword, reply_words as reply_keys, reply_word}
 use Rattle.pg_report.specs.Forms.{long}
-use Rattle.pg_report.specs.Denials.{denial_words}
-use Rattle.pg_report.specs.Replies.{violation_words, file_reply_words, proc_reply_words, trust_reply_words, reply_words}
-use Rattle.pg_report.specs.ReplyRows.{denial_row, denial_of, violation_of, victim_of, given_of, Told, plainly, signature_row, blob_row, refuse_row, write_row, region_row, drop_row, drop_all_row, enter_row, store_row, load_row, evict_row, file_reply_row, dead_row, idle_row, start_row, insert_row, resolve_row, remove_row, debug_row, punish_row, clear_row, exit_row, proc_reply_row, load_module_row, lookup_row, trust_reply_row, reply_row, reply_of}
-use Rattle.pg_report.proofs.TookFacts.{bind_some, some_is, took0, took1, took2, took4, long_took, short_took, process_took, file_took, few_took, flags_took, only_took, refusal_took}
+use Rattle.pg_report.specs.Denials.{denial_words, denial_row, denial_of, violation_words, violation_of}
+use Rattle.pg_report.specs.ReplyTable.{victim_of, given_of, Told}
+use Rattle.pg_report.specs.Replies.{file_reply_words, proc_reply_words, trust_reply_words, reply_words}
+use Rattle.pg_report.specs.ReplyRows.{plainly, signature_row, blob_row, refuse_row, write_row, region_row, drop_row, drop_all_row, enter_row, store_row, load_row, evict_row, file_reply_row, dead_row, idle_row, start_row, insert_row, resolve_row, remove_row, debug_row, punish_row, clear_row, exit_row, proc_reply_row, load_module_row, lookup_row, trust_reply_row, reply_row, reply_of}
+use Rattle.pg_report.proofs.TookFacts.{named_is, bind_some, some_is, took0, took1, took2, took4, long_took, short_took, process_took, file_took, few_took, flags_took, only_took, refusal_took}
 use Rattle.pg_report.proofs.BitsFacts.{files_took}
-use Rattle.pg_report.proofs.EventFacts.{named_is}
 
 nothing : {A : Type 0} {P : Type 0} (x : A) → None ≡ Some x → P
 nothing x e = absurd (none-some x e)
@@ -94,11 +94,15 @@ told_words told = file_reply_words told.1 told.0
 abbrev plain_words : FileReply → List (List ℕ)
 plain_words r = file_reply_words 0 r
 
+-- a reply that tells of no bytes
+plainly_took : (o : Option FileReply) (words : List (List ℕ)) (x : Told) → ((r : FileReply) → o ≡ Some r → plain_words r ≡ words) → option_map plainly o ≡ Some x → told_words x ≡ words
+plainly_took o words x took e = let m = map_takes plainly o x e in ap told_words (sym m.2) ∙ took m.0 m.1
+
 signature_took : (k : ReplyWord) (ws : List (List ℕ)) (x : Told) → signature_row k ws ≡ Some x → told_words x ≡ reply_keyword k ∷ ws
-signature_took key.NoSlices ws x e = took1 refusal_took (λ r. (file.NoSlices r, 0)) told_words ws x _ (λ v. refl) e
-signature_took key.NoSlice ws x e = took1 short_took (λ n. (file.NoSlice n, 0)) told_words ws x _ (λ v. refl) e
-signature_took key.NoImage ws x e = took1 refusal_took (λ r. (file.NoImage r, 0)) told_words ws x _ (λ v. refl) e
-signature_took key.PagerFault ws x e = took1 long_took (λ p. (file.PagerFault p, 0)) told_words ws x _ (λ v. refl) e
+signature_took key.NoSlices ws x e = plainly_took _ _ x (λ r e. took1 refusal_took (λ r. file.NoSlices r) plain_words ws r _ (λ v. refl) e) e
+signature_took key.NoSlice ws x e = plainly_took _ _ x (λ r e. took1 short_took (λ n. file.NoSlice n) plain_words ws r _ (λ v. refl) e) e
+signature_took key.NoImage ws x e = plainly_took _ _ x (λ r e. took1 refusal_took (λ r. file.NoImage r) plain_words ws r _ (λ v. refl) e) e
+signature_took key.PagerFault ws x e = plainly_took _ _ x (λ r e. took1 long_took (λ p. file.PagerFault p) plain_words ws r _ (λ v. refl) e) e
 signature_took key.Read ws x e = took1 long_took (λ n. (file.Read [], n)) told_words ws x _ (λ v. refl) e
 signature_took other ws x e = nothing x e
 
@@ -155,10 +159,6 @@ evict_took key.NotResident ws x e = took0 file.NotResident plain_words ws x _ re
 evict_took key.PagerFault ws x e = took1 long_took (λ p. file.PagerFault p) plain_words ws x _ (λ v. refl) e
 evict_took key.Evicted ws x e = took0 file.Evicted plain_words ws x _ refl e
 evict_took other ws x e = nothing x e
-
--- a reply that tells of no bytes
-plainly_took : (o : Option FileReply) (words : List (List ℕ)) (x : Told) → ((r : FileReply) → o ≡ Some r → plain_words r ≡ words) → option_map plainly o ≡ Some x → told_words x ≡ words
-plainly_took o words x took e = let m = map_takes plainly o x e in ap told_words (sym m.2) ∙ took m.0 m.1
 
 file_reply_took : (v : FileEvent) (k : ReplyWord) (ws : List (List ℕ)) (x : Told) → file_reply_row v k ws ≡ Some x → told_words x ≡ reply_keyword k ∷ ws
 file_reply_took (file_event.ReadSignature slice) k ws x e = signature_took k ws x e

@@ -18,7 +18,7 @@ use Rattle.pg_words.specs.Rows.{row0, row1, row2, row4, row5}
 use Rattle.pg_words.proofs.NameFacts.{prot_again, share_again, access_again, is_word_text}
 use Rattle.pg_words.proofs.PieceFacts.{data_again}
 use Rattle.pg_words.proofs.PlainFacts.{decimal_is_word, address_is_word, hex_is_word, prot_is_word, share_is_word, access_is_word, data_is_word}
-use Rattle.pg_report.specs.Denials.{stamp_text}
+use Rattle.pg_report.specs.Forms.{stamp_text}
 use Rattle.pg_report.specs.Forms.{long, short, file_form, process_form, cache_form, address_form, stamp_form, flags_form, cdhash_form, few_bytes, data_form, refusal_form}
 use Rattle.pg_report.specs.Reading.{is_arrow}
 use Rattle.pg_report.specs.Fits.{RefusalFits, FewBytes, IsCdhash}

@@ -3,7 +3,8 @@ use Rattle.std.proofs.Common.{◌≡◌, ℕ, List, [], ◌∷◌, ◌++◌, cod
 use Rattle.std.proofs.lemmas.List.{append-nil}
 use Rattle.pg_words.specs.Lines.{spaced, line_text}
 use Rattle.cs_policy.specs.declared.denial.Denial.{Denial}
-use Rattle.pg_report.specs.Replies.{victim_words, violation_words}
+use Rattle.pg_report.specs.Denials.{violation_words}
+use Rattle.pg_report.specs.ReplyTable.{victim_words}
 
 pub spaced-append : (a b : List (List ℕ)) → spaced (a ++ b) ≡ spaced a ++ spaced b
 spaced-append [] b = refl

@@ -2,7 +2,7 @@
 use Rattle.std.proofs.Common.{◌≡◌, ℕ, ◌^◌, ◌==◌, cond, Bool, true, false, List, [], ◌∷◌, length, drop, codes, Option, Some, None, refl, ap, sym, ◌∙◌, arith}
 use Rattle.std.specs.Prelude.{bytes_eq, nat_le}
 use Rattle.std.specs.List.{slice_split, join_with_byte}
-use Rattle.std.specs.Option.{option_and_then}
+use Rattle.std.specs.Option.{option_and_then, option_map, option_or}
 use Rattle.std.specs.Fmt.{decimal}
 use Rattle.std.proofs.lemmas.Bool.{eqb-true}
 use Rattle.std.proofs.lemmas.List.Splits.{join_with_byte-slice_split}
@@ -18,14 +18,14 @@ use Rattle.pg_words.specs.Numbers.{address_text}
 use Rattle.pg_words.specs.Digits.{hex_word, flags_word, flags_text}
 use Rattle.pg_words.specs.Names.{file_text, process_text, cache_text, prot_word, prot_text, share_word, share_text, access_word, access_text}
 use Rattle.pg_words.specs.Data.{data_text}
-use Rattle.pg_words.specs.Rows.{row0, row1, row2, row4, row5}
+use Rattle.pg_words.specs.Rows.{named, row0, row1, row2, row4, row5}
 use Rattle.pg_words.proofs.NumeralFacts.{number_takes, address_takes}
 use Rattle.pg_words.proofs.NameFacts.{name_takes, prot_takes, share_takes, access_takes, chosen, is_word_text}
 use Rattle.pg_words.proofs.HexFacts.{hex_takes, bytes_takes, flags_takes, map_takes}
 use Rattle.pg_words.proofs.PieceFacts.{data_takes}
-use Rattle.pg_report.specs.Denials.{stamp_text}
-use Rattle.pg_report.specs.Journal.{who_text, place_text}
-use Rattle.pg_report.specs.Forms.{long, short, tiny, only, file_form, process_form, cache_form, address_form, stamp_form, flags_form, cdhash_form, few_bytes, data_form, family_form, refusal_form, refusal_made, who_form, who_made, place_form}
+use Rattle.pg_report.specs.Forms.{stamp_text}
+use Rattle.pg_report.specs.Forms.{who_text, place_text}
+use Rattle.pg_report.specs.Forms.{long, short, tiny, only, file_form, process_form, cache_form, address_form, stamp_form, flags_form, cdhash_form, few_bytes, data_form, families, family_form, refusal_form, refusal_made, who_form, who_made, place_form}
 
 -- a form whose words are how their values are printed
 pub record Took {A : Type 0} (a : List ℕ → Option A) (text : A → List ℕ) : Type 0 where
@@ -107,18 +107,18 @@ only_is limit w n e =
 pub only_took : (limit : ℕ) → Took (only limit) decimal
 only_took limit = record { is = only_is limit }
 
-family_named : (w : List ℕ) (text : List ℕ) (n f : ℕ) → bytes_eq w text ≡ true → Some n ≡ Some f → family_name n ≡ text → w ≡ family_name f
-family_named w text n f t e name = is_word_text w text t ∙ sym name ∙ ap family_name (some_is n f e)
+-- a word that is found in a table is the text there
+pub named_is : {K : Type 0} (text : K → List ℕ) (keys : List K) (word : List ℕ) (key : K) → named text keys word ≡ Some key → word ≡ text key
+named_is text [] word key e = absurd cc
+named_is text (first ∷ keys) word key e = by (bytes_eq word (text first)) refl e (named_is text keys word key)
+  where
+    by : (t : Bool) → bytes_eq word (text first) ≡ t → cond t (Some first) (named text keys word) ≡ Some key → (named text keys word ≡ Some key → word ≡ text key) → word ≡ text key
+    by true t e more = is_word_text word (text first) t ∙ ap text (some_is first key e)
+    by false t e more = more e
 
 family_is : (w : List ℕ) (f : ℕ) → family_form w ≡ Some f → w ≡ family_name f
-unfolding family_form family_name
-family_is w f e =
-    chosen _ _ _ _ e (λ t e. family_named w (codes "fat") 1 f t e refl)
-    (λ e. chosen _ _ _ _ e (λ t e. family_named w (codes "mach") 2 f t e refl)
-    (λ e. chosen _ _ _ _ e (λ t e. family_named w (codes "super") 3 f t e refl)
-    (λ e. chosen _ _ _ _ e (λ t e. family_named w (codes "dir") 4 f t e refl)
-    (λ e. chosen _ _ _ _ e (λ t e. family_named w (codes "blob") 5 f t e refl)
-    (λ e. chosen _ _ _ _ e (λ t e. family_named w (codes "trust") 6 f t e refl) (λ e. absurd cc))))))
+unfolding family_form
+family_is w f e = named_is family_name families w f e
 
 pub family_took : Took family_form family_name
 family_took = record { is = family_is }
@@ -212,15 +212,20 @@ who_is w x e =
 pub who_took : Took who_form who_text
 who_took = record { is = who_is }
 
+-- the first of two that says something
+pub either : {A P : Type 0} (o p : Option A) (x : A) → option_or o p ≡ Some x → (o ≡ Some x → P) → (p ≡ Some x → P) → P
+either None p x e first second = second e
+either (Some y) p x e first second = first e
+
 place_is : (w : List ℕ) (p : Place) → place_form w ≡ Some p → w ≡ place_text p
 unfolding place_form
-place_is [] p e = absurd cc
-place_is (c ∷ digits) p e =
-    chosen _ _ _ _ e
-    (λ t e. let m = map_takes (λ f. place.File f) (short digits) p e in (λ i. eqb-true c 102 t i ∷ short_took.is digits m.0 m.1 i) ∙ ap place_text m.2)
-    (λ e. chosen _ _ _ _ e
-    (λ t e. let m = map_takes (λ f. place.Process f) (short digits) p e in (λ i. eqb-true c 112 t i ∷ short_took.is digits m.0 m.1 i) ∙ ap place_text m.2)
-    (λ e. chosen _ _ _ _ e (λ t e. is_word_text (c ∷ digits) (codes "t") t ∙ ap place_text (some_is place.Trust p e)) (λ e. absurd cc)))
+place_is w p e =
+    either (option_map (λ f. place.File f) (file_form w)) _ p e
+    (λ e. let m = map_takes (λ f. place.File f) (file_form w) p e in file_took.is w m.0 m.1 ∙ ap place_text m.2)
+    (λ e.
+    either (option_map (λ q. place.Process q) (process_form w)) _ p e
+    (λ e. let m = map_takes (λ q. place.Process q) (process_form w) p e in process_took.is w m.0 m.1 ∙ ap place_text m.2)
+    (λ e. named_is place_text (place.Trust ∷ []) w p e))
 
 pub place_took : Took place_form place_text
 place_took = record { is = place_is }

@@ -6,24 +6,11 @@ use Rattle.cs_policy.specs.declared.file.FileReply.TheVariants as file
 use Rattle.cs_policy.specs.declared.entry.Reply.{Reply}
 use Rattle.cs_policy.specs.declared.entry.Reply.TheVariants as reply
 use Rattle.cs_policy.specs.declared.entry.Entry.{Entry}
-use Rattle.cs_policy.specs.declared.entry.Who.{Who}
-use Rattle.cs_policy.specs.declared.entry.Place.{Place}
-use Rattle.cs_policy.specs.declared.entry.Place.TheVariants as place
 use Rattle.pg_book.specs.declared.receipt.Stamped.{Stamped}
 use Rattle.pg_words.specs.Lines.{line_text}
-use Rattle.pg_words.specs.Names.{file_text, process_text}
+use Rattle.pg_report.specs.Forms.{who_text, place_text}
 use Rattle.pg_report.specs.Events.{event_words}
 use Rattle.pg_report.specs.Replies.{reply_words, read_count}
-
--- the worker and its call
-abbrev pub who_text : Who → List ℕ
-who_text who = decimal who.worker ++ (codes "." ++ decimal who.call)
-
--- the part: a file, a process or the trust list
-abbrev pub place_text : Place → List ℕ
-place_text (place.File file) = file_text file
-place_text (place.Process pid) = process_text pid
-place_text place.Trust = codes "t"
 
 -- the words of an event's line: its stamp, who made it, where, the event, and the reply
 abbrev pub entry_words : ℕ → ℕ → Entry → List (List ℕ)

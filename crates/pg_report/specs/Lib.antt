@@ -2,7 +2,6 @@ pub mod Denials
 pub mod Events
 pub mod Replies
 pub mod Journal
-pub mod EventParts
 pub mod ReplyParts
 pub mod Forms
 pub mod Gives
@@ -12,4 +11,7 @@ pub mod ReplyRows
 pub mod Reading
 pub mod Answers
 pub mod Fits
-pub mod Again
+pub mod Grammar
+pub mod Columns
+pub mod EventTable
+pub mod ReplyTable

@@ -1,4 +1,5 @@
--- What the lines of a journal say, or which is the first line that no journal has there.
+-- How the lines of a journal are read, step by step: what they say, or the line where reading stops. No public clause cites
+-- these steps: which texts are journals, and which line is the first bad one, is said by Grammar.antt.
 use Rattle.std.specs.Prelude.{◌≡◌, ℕ, ◌+◌, ◌==◌, Bool, true, false, if◌then◌else◌, List, [], ◌∷◌, ◌++◌, length, count_by, codes, bytes_eq, Option, Some, None, option_map, Result, Ok, Err}
 use Rattle.std.specs.List.{flat_map}
 use Rattle.cs_policy.specs.declared.entry.Entry.{Entry}
@@ -116,22 +117,3 @@ said_behind above (text ∷ texts) =
 -- what a text says
 unfoldable pub said : List ℕ → Result (List Line × ℕ) ℕ
 said text = said_behind [] (lines_of text)
-
--- the text of the lines, with so many calls
-abbrev pub line_text_of : Line → List ℕ
-line_text_of l = entry_text l.stamp l.read l.entry
-
-unfoldable pub text_of : List Line → ℕ → List ℕ
-text_of lines calls =
-    flat_map line_text_of lines
-    ++ summary_text (length lines) calls (count_by (λ l. is_given l.entry.reply) lines) (count_by (λ l. is_denied l.entry.reply) lines)
-
--- each line has its place as its stamp, from a place on
-abbrev pub AreStamped : ℕ → List Line → Type 0
-AreStamped due [] = Unit {0}
-AreStamped due (l ∷ lines) = (l.stamp ≡ due) × AreStamped (due + 1) lines
-
--- the text is the journal of these lines, with so many calls
-pub record IsJournal (text : List ℕ) (lines : List Line) (calls : ℕ) : Type 0 where
-  pub printed : text ≡ text_of lines calls
-  pub stamps : AreStamped 0 lines

@@ -1,13 +1,11 @@
 //! What the words of events say.
 
 ghost use Rattle.std.specs.Prelude.{◌≡◌};
-ghost use Rattle.cs_policy.specs.declared.file.FileEvent.TheVariants as file;
-ghost use Rattle.pg_report.specs.declared.words.ProcWord.TheVariants as proc_key;
 ghost use Rattle.pg_words.specs.Lines.{texts};
-ghost use Rattle.pg_words.specs.Names.{access_word};
-ghost use Rattle.pg_words.specs.Rows.{row0, row1, row2, row4, row5};
-ghost use Rattle.pg_report.specs.Forms.{short, long, cdhash_form, stamp_form, refusal_form, data_form, few_bytes, flags_form, process_form};
-ghost use Rattle.pg_report.specs.EventRows.{region_row, insert_row, file_event_row, proc_event_row, trust_event_row, file_event_of, proc_event_of, trust_event_of, event_of};
+ghost use Rattle.pg_words.specs.Rows.{row0, row1};
+ghost use Rattle.pg_report.specs.Forms.{short, long, process_form};
+ghost use Rattle.pg_report.specs.EventTable as row;
+ghost use Rattle.pg_report.specs.EventRows.{file_event_row, proc_event_row, trust_event_row, file_event_of, proc_event_of, trust_event_of, event_of};
 ghost use Rattle.pg_report.specs.Gives.{Gives};
 
 use crate::forms::{Unread, data, flags, refusal, said, stamp, stored};
@@ -18,8 +16,7 @@ use std::alloc::Global;
 
 /// `addblob K CDHASH @READ @LOOKUP`
 fn add_blob(columns: &[&[u8]]) -> Result<FileEvent, Unread>
-    ensures { Gives result (row4 short cdhash_form stamp_form stamp_form
-        (λ slice cdhash read lookup. file.AddBlob slice cdhash read lookup) (texts columns.now)) }
+    ensures { Gives result (row.add_blob.says (texts columns.now)) }
 {
     let [slice, cdhash_word, read, lookup] = columns else {
         return Err(Unread::OtherForm);
@@ -38,8 +35,7 @@ fn add_blob(columns: &[&[u8]]) -> Result<FileEvent, Unread>
 
 /// `refuse @READ R`
 fn refuse(alloc: Global, columns: &[&[u8]]) -> Result<FileEvent, Unread>
-    ensures { Gives result (row2 stamp_form refusal_form
-        (λ read refusal. file.RefuseBlob read refusal) (texts columns.now)) }
+    ensures { Gives result (row.refuse_blob.says (texts columns.now)) }
 {
     let [read, refusal_word] = columns else {
         return Err(Unread::OtherForm);
@@ -51,7 +47,7 @@ fn refuse(alloc: Global, columns: &[&[u8]]) -> Result<FileEvent, Unread>
 
 /// `write OFF DATA`
 fn write(alloc: Global, columns: &[&[u8]]) -> Result<FileEvent, Unread>
-    ensures { Gives result (row2 long data_form (λ at piece. file.Write at piece) (texts columns.now)) }
+    ensures { Gives result (row.write.says (texts columns.now)) }
 {
     let [at, piece] = columns else {
         return Err(Unread::OtherForm);
@@ -62,9 +58,8 @@ fn write(alloc: Global, columns: &[&[u8]]) -> Result<FileEvent, Unread>
 }
 
 /// `addregion ID pP FIRST PAGES PROT SHARE @INSERT`
-#[tactic(auto, unfolding(crate::specs::EventRows::region_row))]
 fn add_region(columns: &[&[u8]]) -> Result<FileEvent, Unread>
-    ensures { Gives result (region_row (texts columns.now)) }
+    ensures { Gives result (row.add_region.says (texts columns.now)) }
 {
     let [id, pid, first, pages, prot_word, share_word, insert] = columns else {
         return Err(Unread::OtherForm);
@@ -91,8 +86,7 @@ fn add_region(columns: &[&[u8]]) -> Result<FileEvent, Unread>
 
 /// `enter ID PAGE A FLAGS @RESOLVE`
 fn enter(columns: &[&[u8]]) -> Result<FileEvent, Unread>
-    ensures { Gives result (row5 short long access_word flags_form stamp_form
-        (λ id page access flags resolve. file.Enter id page access flags resolve) (texts columns.now)) }
+    ensures { Gives result (row.enter.says (texts columns.now)) }
 {
     let [id, page, access_word, flags_word, resolve] = columns else {
         return Err(Unread::OtherForm);
@@ -113,8 +107,7 @@ fn enter(columns: &[&[u8]]) -> Result<FileEvent, Unread>
 
 /// `store ID PAGE AT HEX @RESOLVE`
 fn store(alloc: Global, columns: &[&[u8]]) -> Result<FileEvent, Unread>
-    ensures { Gives result (row5 short long short (few_bytes 64) stamp_form
-        (λ id page at bytes resolve. file.Store id page at bytes resolve) (texts columns.now)) }
+    ensures { Gives result (row.store.says (texts columns.now)) }
 {
     let [id, page, at, bytes, resolve] = columns else {
         return Err(Unread::OtherForm);
@@ -135,8 +128,7 @@ fn store(alloc: Global, columns: &[&[u8]]) -> Result<FileEvent, Unread>
 
 /// `load ID PAGE AT COUNT @RESOLVE`
 fn load(columns: &[&[u8]]) -> Result<FileEvent, Unread>
-    ensures { Gives result (row5 short long short short stamp_form
-        (λ id page at count resolve. file.Load id page at count resolve) (texts columns.now)) }
+    ensures { Gives result (row.load.says (texts columns.now)) }
 {
     let [id, page, at, count, resolve] = columns else {
         return Err(Unread::OtherForm);
@@ -157,8 +149,7 @@ fn load(columns: &[&[u8]]) -> Result<FileEvent, Unread>
 
 /// `fetch ID PAGE AT COUNT @RESOLVE`
 fn fetch(columns: &[&[u8]]) -> Result<FileEvent, Unread>
-    ensures { Gives result (row5 short long short short stamp_form
-        (λ id page at count resolve. file.Fetch id page at count resolve) (texts columns.now)) }
+    ensures { Gives result (row.fetch.says (texts columns.now)) }
 {
     let [id, page, at, count, resolve] = columns else {
         return Err(Unread::OtherForm);
@@ -251,9 +242,8 @@ fn file_event(alloc: Global, words: &[&[u8]]) -> Result<FileEvent, Unread>
 }
 
 /// `insert ADDR fF FIRST PAGES PROT SHARE`
-#[tactic(auto, unfolding(crate::specs::EventRows::insert_row))]
 fn insert(columns: &[&[u8]]) -> Result<ProcEvent, Unread>
-    ensures { Gives result (insert_row (texts columns.now)) }
+    ensures { Gives result (row.insert.says (texts columns.now)) }
 {
     let [at, file, first, pages, prot_word, share_word] = columns else {
         return Err(Unread::OtherForm);
@@ -277,7 +267,7 @@ fn insert(columns: &[&[u8]]) -> Result<ProcEvent, Unread>
 
 /// `resolve ADDR A`
 fn resolve(columns: &[&[u8]]) -> Result<ProcEvent, Unread>
-    ensures { Gives result (proc_event_row proc_key.Resolve (texts columns.now)) }
+    ensures { Gives result (row.resolve.says (texts columns.now)) }
 {
     let [addr, access_word] = columns else {
         return Err(Unread::OtherForm);
@@ -289,7 +279,7 @@ fn resolve(columns: &[&[u8]]) -> Result<ProcEvent, Unread>
 
 /// `remove ADDR`
 fn remove(columns: &[&[u8]]) -> Result<ProcEvent, Unread>
-    ensures { Gives result (proc_event_row proc_key.Remove (texts columns.now)) }
+    ensures { Gives result (row.remove.says (texts columns.now)) }
 {
     let [at] = columns else {
         return Err(Unread::OtherForm);

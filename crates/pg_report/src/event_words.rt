@@ -1,11 +1,12 @@
 //! Printing events.
 
-ghost use Rattle.std.specs.Prelude.{◌≡◌, ◌++◌, ◌∷◌, [], OnOk, decimal};
+ghost use Rattle.std.specs.Prelude.{◌≡◌, ◌++◌, ◌∷◌, [], drop, OnOk, decimal};
 ghost use Rattle.pg_words.specs.Lines.{spaced};
 ghost use Rattle.pg_words.specs.Numbers.{address_text};
-ghost use Rattle.pg_report.specs.Denials.{stamp_text};
+ghost use Rattle.pg_report.specs.Forms.{stamp_text};
 ghost use Rattle.pg_report.specs.Events.{file_event_words, proc_event_words, trust_event_words, event_words};
-ghost use Rattle.pg_report.specs.EventParts.{blob_words, region_words, enter_words, touch_words, insert_words};
+ghost use Rattle.cs_policy.specs.declared.file.FileEvent.TheVariants as file;
+ghost use Rattle.pg_report.specs.EventTable.{insert};
 ghost use Rattle.cs_policy.specs.Refusal.{refusal_text};
 
 use bitflags::Flags;
@@ -51,33 +52,54 @@ fn add_place(alloc: Global, text: &mut Vec<u8>, word: &[u8], addr: u64) -> Resul
     add_address(alloc, text, addr)
 }
 
-/// A signature that is attached, up to the stamps.
+/// A signature that is attached.
 fn add_blob(
     alloc: Global,
     text: &mut Vec<u8>,
     slice: u32,
     cdhash: &[u8; 20],
+    read: u64,
+    lookup: u64,
 ) -> Result<(), AllocError>
-    ensures { OnOk result (text.new.items ≡ text.old.items ++ spaced (blob_words slice cdhash.now)) }
+    ensures { OnOk result (text.new.items ≡
+        text.old.items ++ spaced (file_event_words (file.AddBlob slice cdhash.now read lookup))) }
 {
     add_count(text, b"addblob", u64::from(slice))?;
-    add_hex(alloc, text, cdhash.as_slice())
+    add_hex(alloc, text, cdhash.as_slice())?;
+    add_stamp(text, read)?;
+    add_stamp(text, lookup)
 }
 
-/// A region that is added, up to the stamp.
-fn add_region(text: &mut Vec<u8>, region: &Region) -> Result<(), AllocError>
-    ensures { OnOk result (text.new.items ≡ text.old.items ++ spaced (region_words region.now)) }
+/// The pages that are mapped, and how.
+fn add_pages(
+    text: &mut Vec<u8>,
+    first: u64,
+    pages: u64,
+    prot: Prot,
+    shared: bool,
+) -> Result<(), AllocError>
+    ensures { OnOk result (text.new.items ≡
+        text.old.items ++ spaced (drop 2 (insert.words (0, 0, first, pages, prot, shared)))) }
+{
+    add_number(text, first)?;
+    add_number(text, pages)?;
+    add_prot(text, prot)?;
+    add_share(text, shared)
+}
+
+/// A region that is added.
+fn add_region(text: &mut Vec<u8>, region: &Region, insert: u64) -> Result<(), AllocError>
+    ensures { OnOk result (text.new.items ≡
+        text.old.items ++ spaced (file_event_words (file.AddRegion region.now insert))) }
 {
     put(text, b" addregion")?;
     add_number(text, u64::from(region.id))?;
     add_name(text, b'p', region.pid)?;
-    add_number(text, region.first)?;
-    add_number(text, region.pages)?;
-    add_prot(text, region.prot)?;
-    add_share(text, region.shared)
+    add_pages(text, region.first, region.pages, region.prot, region.shared)?;
+    add_stamp(text, insert)
 }
 
-/// An access by a fault, up to the stamp.
+/// An access by a fault.
 fn add_enter(
     alloc: Global,
     text: &mut Vec<u8>,
@@ -85,20 +107,23 @@ fn add_enter(
     page: u64,
     access: Access,
     flags: ProcFlags,
+    resolve: u64,
 ) -> Result<(), AllocError>
     ensures { OnOk result (text.new.items ≡
-        text.old.items ++ spaced (enter_words id page access flags)) }
+        text.old.items ++ spaced (file_event_words (file.Enter id page access flags resolve))) }
 {
     put(text, b" enter")?;
     add_number(text, u64::from(id))?;
     add_number(text, page)?;
     add_access(text, access)?;
-    add_flags(alloc, text, flags.bits())
+    add_flags(alloc, text, flags.bits())?;
+    add_stamp(text, resolve)
 }
 
 /// A word, and a place in a page that a region has.
 fn add_touch(text: &mut Vec<u8>, word: &[u8], id: u32, page: u64, at: u32) -> Result<(), AllocError>
-    ensures { OnOk result (text.new.items ≡ text.old.items ++ spaced (touch_words word.now id page at)) }
+    ensures { OnOk result (text.new.items ≡
+        text.old.items ++ spaced (word.now ∷ decimal id ∷ decimal page ∷ decimal at ∷ [])) }
 {
     add_word(text, word)?;
     add_number(text, u64::from(id))?;
@@ -117,11 +142,7 @@ fn add_file_event(alloc: Global, text: &mut Vec<u8>, event: &FileEvent) -> Resul
             cdhash,
             read,
             lookup,
-        } => {
-            add_blob(alloc, text, *slice, cdhash)?;
-            add_stamp(text, *read)?;
-            add_stamp(text, *lookup)
-        }
+        } => { add_blob(alloc, text, *slice, cdhash, *read, *lookup) }
         FileEvent::RefuseBlob { read, refusal } => {
             put(text, b" refuse")?;
             add_stamp(text, *read)?;
@@ -131,10 +152,7 @@ fn add_file_event(alloc: Global, text: &mut Vec<u8>, event: &FileEvent) -> Resul
             add_count(text, b"write", *at)?;
             add_data(alloc, text, piece)
         }
-        FileEvent::AddRegion { region, insert } => {
-            add_region(text, region)?;
-            add_stamp(text, *insert)
-        }
+        FileEvent::AddRegion { region, insert } => { add_region(text, region, *insert) }
         FileEvent::DropRegion { id } => add_count(text, b"dropregion", u64::from(*id)),
         FileEvent::DropPid { pid } => {
             put(text, b" droppid")?;
@@ -146,10 +164,7 @@ fn add_file_event(alloc: Global, text: &mut Vec<u8>, event: &FileEvent) -> Resul
             access,
             flags,
             resolve,
-        } => {
-            add_enter(alloc, text, *id, *page, *access, *flags)?;
-            add_stamp(text, *resolve)
-        }
+        } => { add_enter(alloc, text, *id, *page, *access, *flags, *resolve) }
         FileEvent::Store {
             id,
             page,
@@ -197,13 +212,10 @@ fn add_mapping(
     shared: bool,
 ) -> Result<(), AllocError>
     ensures { OnOk result (text.new.items ≡
-        text.old.items ++ spaced (insert_words file first pages prot shared)) }
+        text.old.items ++ spaced (drop 1 (insert.words (0, file, first, pages, prot, shared)))) }
 {
     add_name(text, b'f', file)?;
-    add_number(text, first)?;
-    add_number(text, pages)?;
-    add_prot(text, prot)?;
-    add_share(text, shared)
+    add_pages(text, first, pages, prot, shared)
 }
 
 /// An event of a process.

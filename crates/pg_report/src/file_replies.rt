@@ -1,7 +1,7 @@
 //! What the words of replies of files say, each behind its event.
 
-ghost use Rattle.pg_report.specs.declared.words.ReplyWord.TheVariants as word;
 ghost use Rattle.pg_words.specs.Lines.{texts};
+ghost use Rattle.pg_report.specs.ReplyTable.{got};
 ghost use Rattle.pg_report.specs.ReplyRows.{signature_row, blob_row, refuse_row, write_row, region_row, drop_row, drop_all_row, store_row, load_row, evict_row, file_reply_row};
 ghost use Rattle.pg_report.specs.Gives.{Gives};
 
@@ -139,7 +139,7 @@ fn store(key: ReplyWord, columns: &[&[u8]]) -> Result<FileReply, Unread>
 
 /// The bytes of a load or a fetch.
 fn bytes(alloc: Global, columns: &[&[u8]]) -> Result<FileReply, Unread>
-    ensures { Gives result (load_row word.Bytes (texts columns.now)) }
+    ensures { Gives result (got.says (texts columns.now)) }
 {
     let [word] = columns else {
         return Err(Unread::OtherForm);

@@ -114,7 +114,7 @@ pub fn data(alloc: Global, word: &[u8]) -> Result<Data, Unread>
 }
 
 /// A family of refusals.
-#[tactic(auto, unfolding(crate::specs::Forms::family_form))]
+#[tactic(auto, unfolding(crate::specs::Forms::family_form, cs_policy::specs::Refusal::family_name))]
 fn family(word: &[u8]) -> Option<u8>
     ensures { result ≡ family_form word.now }
 {
@@ -175,12 +175,16 @@ pub fn who(alloc: Global, word: &[u8]) -> Result<Who, Unread>
 pub fn place(word: &[u8]) -> Option<Place>
     ensures { result ≡ place_form word.now }
 {
-    match word {
-        [b'f', digits @ ..] => Some(Place::File(short_number(digits)?)),
-        [b'p', digits @ ..] => Some(Place::Process(short_number(digits)?)),
-        [b't'] => Some(Place::Trust),
-        _ => None,
+    if let Some(file) = short_name(b'f', word) {
+        return Some(Place::File(file));
     }
+    if let Some(pid) = short_name(b'p', word) {
+        return Some(Place::Process(pid));
+    }
+    if is_text(word, b"t") {
+        return Some(Place::Trust);
+    }
+    None
 }
 
 /// The number whose bits are so many files, from a file on, by their names.

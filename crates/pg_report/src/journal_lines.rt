@@ -1,12 +1,12 @@
 //! Reading a journal.
 
-ghost use Rattle.std.specs.Prelude.{◌≡◌, ◌<◌, ◌^◌, [], length, count_by, option_map, IfOk, Ok};
+ghost use Rattle.std.specs.Prelude.{◌≡◌, ◌<◌, ◌^◌, [], length, count_by, option_map, Ok};
 ghost use Rattle.pg_words.specs.Lines.{texts, lines_of, words_of};
 ghost use Rattle.pg_report.specs.Journal.{is_given, is_denied};
-ghost use Rattle.pg_report.specs.Reading.{at_arrow, line_said, line_of, counted, is_wanted, sum_line, last_sums, sums_of, sums, said_behind, said, IsJournal};
+ghost use Rattle.pg_report.specs.Reading.{at_arrow, line_said, line_of, counted, is_wanted, sum_line, last_sums, sums_of, sums, said_behind, said};
 ghost use Rattle.pg_report.specs.Gives.{Gives};
 ghost use Rattle.pg_report.specs.Answers.{Reads};
-ghost use Rattle.pg_report.specs.Again.{ReadsAgain};
+ghost use Rattle.pg_report.specs.Grammar.{ReadsJournal, ReadsAgain};
 
 use crate::event_lines::event;
 use crate::forms::{Unread, place, said, who};
@@ -225,7 +225,8 @@ fn read_lines(alloc: Global, text: &[u8]) -> Result<(Vec<Line>, u64), JournalFai
 /// The lines of a journal by its grammar.
 #[tactic(auto, unfolding(crate::specs::Reading::said))]
 fn read_text(alloc: Global, text: &[u8]) -> Result<(Vec<Line>, u64), JournalFail>
-    ensures { Reads (λ journal. (journal.0.items, journal.1)) result (said text.now) }
+    ensures said { Reads (λ journal. (journal.0.items, journal.1)) result (said text.now) }
+    ensures short { length text.now < 2 ^ 64 }
 {
     read_lines(alloc, text)
 }
@@ -237,8 +238,7 @@ fn read_text(alloc: Global, text: &[u8]) -> Result<(Vec<Line>, u64), JournalFail
 /// them. Each line ends by LF. `Bad` tells the first line that no journal has there: one that is missing, or that LF
 /// does not end, is bad at its number.
 pub fn read_journal(alloc: Global, text: &[u8]) -> Result<(Vec<Line>, u64), JournalFail>
-    ensures exact { Reads (λ journal. (journal.0.items, journal.1)) result (said text.now) }
-    ensures printed { IfOk result (λ journal. IsJournal text.now journal.0.items journal.1) }
+    ensures exact { ReadsJournal (λ journal. (journal.0.items, journal.1)) result text.now }
     ensures read_again { ReadsAgain (λ journal. (journal.0.items, journal.1)) result text.now }
 {
     read_text(alloc, text)

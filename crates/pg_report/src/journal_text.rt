@@ -4,7 +4,8 @@ ghost use Rattle.std.specs.Prelude.{◌≡◌, ◌++◌, ◌∷◌, [], OnOk, If
 ghost use Rattle.std.specs.List.{flat_map};
 ghost use Rattle.pg_words.specs.Lines.{spaced};
 ghost use Rattle.pg_report.specs.Replies.{read_count};
-ghost use Rattle.pg_report.specs.Journal.{who_text, place_text, entry_text, stamped_text, is_given, is_denied, summary_text};
+ghost use Rattle.pg_report.specs.Forms.{who_text, place_text};
+ghost use Rattle.pg_report.specs.Journal.{entry_text, stamped_text, is_given, is_denied, summary_text};
 ghost use Rattle.pg_report.specs.Journal as texts;
 
 use crate::event_words::add_event;

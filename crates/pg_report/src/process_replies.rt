@@ -1,9 +1,9 @@
 //! What the words of replies of processes and of the trust list say, each behind its event.
 
-ghost use Rattle.pg_report.specs.declared.words.ReplyWord.TheVariants as word;
 ghost use Rattle.pg_words.specs.Lines.{texts};
 ghost use Rattle.pg_words.specs.Rows.{row1};
 ghost use Rattle.pg_report.specs.Forms.{flags_form, only};
+ghost use Rattle.pg_report.specs.ReplyTable.{region, removed, exited, listed};
 ghost use Rattle.pg_report.specs.ReplyRows.{dead_row, idle_row, start_row, insert_row, resolve_row, remove_row, debug_row, punish_row, clear_row, exit_row, proc_reply_row, load_module_row, lookup_row, trust_reply_row};
 ghost use Rattle.pg_report.specs.Gives.{Gives};
 
@@ -100,7 +100,7 @@ fn insert(key: ReplyWord, columns: &[&[u8]]) -> Result<ProcReply, Unread>
 
 /// `region ID fF PAGE FLAGS`
 fn region(columns: &[&[u8]]) -> Result<ProcReply, Unread>
-    ensures { Gives result (resolve_row word.Region (texts columns.now)) }
+    ensures { Gives result (region.says (texts columns.now)) }
 {
     let [id, file, page, flags_word] = columns else {
         return Err(Unread::OtherForm);
@@ -134,7 +134,7 @@ fn resolve(key: ReplyWord, columns: &[&[u8]]) -> Result<ProcReply, Unread>
 
 /// `removed ID fF`
 fn removed(columns: &[&[u8]]) -> Result<ProcReply, Unread>
-    ensures { Gives result (remove_row word.Removed (texts columns.now)) }
+    ensures { Gives result (removed.says (texts columns.now)) }
 {
     let [id, file] = columns else {
         return Err(Unread::OtherForm);
@@ -194,7 +194,7 @@ fn clear(key: ReplyWord, columns: &[&[u8]]) -> Result<ProcReply, Unread>
 
 /// `exited LIST`
 fn exited(alloc: Global, columns: &[&[u8]]) -> Result<ProcReply, Unread>
-    ensures { Gives result (exit_row word.Exited (texts columns.now)) }
+    ensures { Gives result (exited.says (texts columns.now)) }
 {
     let [word] = columns else {
         return Err(Unread::OtherForm);
@@ -254,7 +254,7 @@ fn load_module(alloc: Global, key: ReplyWord, columns: &[&[u8]]) -> Result<Trust
 
 /// `listed M PLACE`
 fn listed(columns: &[&[u8]]) -> Result<TrustReply, Unread>
-    ensures { Gives result (lookup_row word.Listed (texts columns.now)) }
+    ensures { Gives result (listed.says (texts columns.now)) }
 {
     let [module, place] = columns else {
         return Err(Unread::OtherForm);

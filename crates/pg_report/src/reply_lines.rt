@@ -5,8 +5,9 @@ ghost use Rattle.cs_policy.specs.declared.file.FileReply.TheVariants as file;
 ghost use Rattle.pg_words.specs.Lines.{texts};
 ghost use Rattle.pg_words.specs.Rows.{row0, row1, row2, row4};
 ghost use Rattle.pg_report.specs.Forms.{short, long, refusal_form, flags_form, process_form};
-ghost use Rattle.pg_report.specs.declared.words.DenialWord.TheVariants as denial_key;
-ghost use Rattle.pg_report.specs.ReplyRows.{denial_row, denial_of, violation_of, victim_of, given_of, enter_row};
+ghost use Rattle.pg_report.specs.Denials.{writable_shared, mismatch, denial_row, denial_of, violation_of};
+ghost use Rattle.pg_report.specs.ReplyTable.{victim_of, given_of};
+ghost use Rattle.pg_report.specs.ReplyRows.{enter_row};
 ghost use Rattle.pg_report.specs.Gives.{Gives};
 
 use crate::event_lines::{only_long, only_short};
@@ -28,7 +29,7 @@ pub fn only_refusal(alloc: Global, columns: &[&[u8]]) -> Result<Refusal, Unread>
 
 /// `writableshared PAGE REGION`
 fn writable_shared(columns: &[&[u8]]) -> Result<Denial, Unread>
-    ensures { Gives result (denial_row denial_key.WritableShared (texts columns.now)) }
+    ensures { Gives result (writable_shared.says (texts columns.now)) }
 {
     let [page, region] = columns else {
         return Err(Unread::OtherForm);
@@ -40,7 +41,7 @@ fn writable_shared(columns: &[&[u8]]) -> Result<Denial, Unread>
 
 /// `mismatch PAGE SLOT FOUND WANTED`
 fn mismatch(alloc: Global, columns: &[&[u8]]) -> Result<Denial, Unread>
-    ensures { Gives result (denial_row denial_key.Mismatch (texts columns.now)) }
+    ensures { Gives result (mismatch.says (texts columns.now)) }
 {
     let [page, slot, found, wanted] = columns else {
         return Err(Unread::OtherForm);
@@ -84,7 +85,7 @@ fn denial_columns(alloc: Global, key: DenialWord, columns: &[&[u8]]) -> Result<D
 }
 
 /// What the words of a denial say.
-#[tactic(auto, unfolding(crate::specs::ReplyRows::denial_of))]
+#[tactic(auto, unfolding(crate::specs::Denials::denial_of))]
 fn denial(alloc: Global, words: &[&[u8]]) -> Result<Denial, Unread>
     ensures { Gives result (denial_of (texts words.now)) }
 {
@@ -95,7 +96,7 @@ fn denial(alloc: Global, words: &[&[u8]]) -> Result<Denial, Unread>
 }
 
 /// The rule that is broken, if there is one.
-#[tactic(auto, unfolding(crate::specs::ReplyRows::violation_of))]
+#[tactic(auto, unfolding(crate::specs::Denials::violation_of))]
 fn violation(alloc: Global, words: &[&[u8]]) -> Result<Option<Denial>, Unread>
     ensures { Gives result (violation_of (texts words.now)) }
 {
@@ -110,7 +111,7 @@ fn violation(alloc: Global, words: &[&[u8]]) -> Result<Option<Denial>, Unread>
 }
 
 /// The page that left memory, and the rule that is broken.
-#[tactic(auto, unfolding(crate::specs::ReplyRows::victim_of))]
+#[tactic(auto, unfolding(crate::specs::ReplyTable::victim_of))]
 fn victim(alloc: Global, words: &[&[u8]]) -> Result<FileReply, Unread>
     ensures { Gives result (victim_of (texts words.now)) }
 {
@@ -138,7 +139,7 @@ fn no_victim(alloc: Global, words: &[&[u8]]) -> Result<FileReply, Unread>
 }
 
 /// What the words behind `given` say.
-#[tactic(auto, unfolding(crate::specs::ReplyRows::given_of, crate::specs::ReplyRows::violation_of))]
+#[tactic(auto, unfolding(crate::specs::ReplyTable::given_of, crate::specs::Denials::violation_of))]
 fn given(alloc: Global, words: &[&[u8]]) -> Result<FileReply, Unread>
     ensures { Gives result (given_of (texts words.now)) }
 {

@@ -4,9 +4,13 @@ ghost use Rattle.std.specs.Prelude.{◌≡◌, ◌++◌, ◌∷◌, [], OnOk, co
 ghost use Rattle.pg_words.specs.Digits.{flags_text};
 ghost use Rattle.cs_policy.specs.ProcFlags.{number_of};
 ghost use Rattle.pg_words.specs.Lines.{spaced};
-ghost use Rattle.pg_report.specs.Denials.{denial_words};
-ghost use Rattle.pg_report.specs.Replies.{victim_words, violation_words, file_reply_words, proc_reply_words, trust_reply_words, reply_words, file_read_count, read_count, bit_files, files_text};
-ghost use Rattle.pg_report.specs.ReplyParts.{writable_words, found_words, mismatch_words, comma_unless, listed};
+ghost use Rattle.cs_policy.specs.declared.denial.Denial.TheVariants as denial;
+ghost use Rattle.cs_policy.specs.declared.process.ProcReply.TheVariants as proc;
+ghost use Rattle.pg_report.specs.Forms.{bit_files, files_text};
+ghost use Rattle.pg_report.specs.Denials.{denial_words, violation_words};
+ghost use Rattle.pg_report.specs.ReplyTable.{victim_words};
+ghost use Rattle.pg_report.specs.Replies.{file_reply_words, proc_reply_words, trust_reply_words, reply_words, file_read_count, read_count};
+ghost use Rattle.pg_report.specs.ReplyParts.{comma_unless, listed};
 ghost use Rattle.pg_words.specs.Names.{file_text};
 
 use crate::event_words::{add_count, add_refusal};
@@ -26,7 +30,7 @@ fn add_mismatch(
     wanted: &[u8],
 ) -> Result<(), AllocError>
     ensures { OnOk result (text.new.items ≡
-        text.old.items ++ spaced (mismatch_words page slot found.now wanted.now)) }
+        text.old.items ++ spaced (denial_words (denial.Mismatch page slot found.now wanted.now))) }
 {
     put(text, b" mismatch")?;
     add_number(text, page)?;
@@ -37,7 +41,7 @@ fn add_mismatch(
 
 /// A page that a shared region may write.
 fn add_writable(text: &mut Vec<u8>, page: u64, region: u32) -> Result<(), AllocError>
-    ensures { OnOk result (text.new.items ≡ text.old.items ++ spaced (writable_words page region)) }
+    ensures { OnOk result (text.new.items ≡ text.old.items ++ spaced (denial_words (denial.WritableShared page region))) }
 {
     add_count(text, b"writableshared", page)?;
     add_number(text, u64::from(region))
@@ -220,7 +224,7 @@ fn add_found(
     page: u64,
     flags: ProcFlags,
 ) -> Result<(), AllocError>
-    ensures { OnOk result (text.new.items ≡ text.old.items ++ spaced (found_words id file page flags)) }
+    ensures { OnOk result (text.new.items ≡ text.old.items ++ spaced (proc_reply_words (proc.Region id file page flags))) }
 {
     put(text, b" region")?;
     add_number(text, u64::from(id))?;

@@ -7,3 +7,4 @@ pub mod Parts
 pub mod Words
 pub mod Cut
 pub mod Rows
+pub mod Tables

@@ -1,11 +1,12 @@
 -- Names as words: of files, processes and trust caches by their numbers, and of protections and accesses.
-use Rattle.std.specs.Prelude.{ℕ, Bool, true, false, ◌++◌, ◌==◌, if◌then◌else◌, List, [], ◌∷◌, codes, bytes_eq, Option, Some, None}
+use Rattle.std.specs.Prelude.{ℕ, Bool, true, false, ◌++◌, ◌==◌, if◌then◌else◌, List, [], ◌∷◌, codes, Option, None}
 use Rattle.std.specs.Fmt.{decimal}
 use Rattle.cs_policy.specs.declared.access.Access.{Access}
 use Rattle.cs_policy.specs.declared.access.Access.TheVariants.{Read, Write, Execute}
 use Rattle.cs_policy.specs.declared.access.Prot.{Prot}
 use Rattle.cs_policy.specs.declared.access.Prot.TheVariants.{R, RW, RX, RWX}
 use Rattle.pg_words.specs.Numbers.{number_word}
+use Rattle.pg_words.specs.Rows.{named}
 
 -- a letter and a number below a limit
 unfoldable pub name_word : ℕ → ℕ → List ℕ → Option ℕ
@@ -30,11 +31,7 @@ prot_text RX = codes "r-x"
 prot_text RWX = codes "rwx"
 
 unfoldable pub prot_word : List ℕ → Option Prot
-prot_word word =
-    if bytes_eq word (codes "r--") then Some R else
-    (if bytes_eq word (codes "rw-") then Some RW else
-    (if bytes_eq word (codes "r-x") then Some RX else
-    (if bytes_eq word (codes "rwx") then Some RWX else None)))
+prot_word word = named prot_text (R ∷ RW ∷ RX ∷ RWX ∷ []) word
 
 -- whether writes change the file
 abbrev pub share_text : Bool → List ℕ
@@ -42,9 +39,7 @@ share_text true = codes "shared"
 share_text false = codes "private"
 
 unfoldable pub share_word : List ℕ → Option Bool
-share_word word =
-    if bytes_eq word (codes "shared") then Some true else
-    (if bytes_eq word (codes "private") then Some false else None)
+share_word word = named share_text (true ∷ false ∷ []) word
 
 -- what is asked of a page
 abbrev pub access_text : Access → List ℕ
@@ -53,7 +48,4 @@ access_text Write = codes "w"
 access_text Execute = codes "x"
 
 unfoldable pub access_word : List ℕ → Option Access
-access_word word =
-    if bytes_eq word (codes "r") then Some Read else
-    (if bytes_eq word (codes "w") then Some Write else
-    (if bytes_eq word (codes "x") then Some Execute else None))
+access_word word = named access_text (Read ∷ Write ∷ Execute ∷ []) word

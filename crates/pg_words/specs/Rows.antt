@@ -52,6 +52,29 @@ row5 a b c d e make (x ∷ y ∷ z ∷ w ∷ v ∷ []) = do
   Some (make x y z w v)
 row5 a b c d e make _ = None
 
+abbrev pub row6 : {A B C D E F X : Type 0} → Form A → Form B → Form C → Form D → Form E → Form F → (A → B → C → D → E → F → X) → List (List ℕ) → Option X
+row6 a b c d e f make (x ∷ y ∷ z ∷ w ∷ v ∷ u ∷ []) = do
+  x ← a x
+  y ← b y
+  z ← c z
+  w ← d w
+  v ← e v
+  u ← f u
+  Some (make x y z w v u)
+row6 a b c d e f make _ = None
+
+abbrev pub row7 : {A B C D E F G X : Type 0} → Form A → Form B → Form C → Form D → Form E → Form F → Form G → (A → B → C → D → E → F → G → X) → List (List ℕ) → Option X
+row7 a b c d e f g make (x ∷ y ∷ z ∷ w ∷ v ∷ u ∷ t ∷ []) = do
+  x ← a x
+  y ← b y
+  z ← c z
+  w ← d w
+  v ← e v
+  u ← f u
+  t ← g t
+  Some (make x y z w v u t)
+row7 a b c d e f g make _ = None
+
 -- the first of a list whose text is this word
 abbrev pub named : {A : Type 0} → (A → List ℕ) → List A → List ℕ → Option A
 named text [] word = None

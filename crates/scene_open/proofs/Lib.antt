@@ -1,4 +1,3 @@
-pub mod GrammarFacts
 pub mod CountFacts
 pub mod LayoutFacts
 pub mod CutFacts

@@ -3,3 +3,6 @@ pub mod LoopFacts
 pub mod HeaderFacts
 pub mod CallFacts
 pub mod RoundFacts
+pub mod SceneLines
+pub mod GrammarFacts
+pub mod WrittenFacts

@@ -89,7 +89,7 @@ told (line.Head h) = head_told h
 told line.Script = refl
 told (line.Call c) = call_told c
 
-line_says : (known : Known) (x : Line) → IsFit known x → line_of known (line_text (words_in x)) ≡ Ok x
+pub line_says : (known : Known) (x : Line) → IsFit known x → line_of known (line_text (words_in x)) ≡ Ok x
 unfolding line_of
 line_says known x fit = rw (line_is_text (words_in x) (words_are known x fit), words_of_line (words_in x) (some_words x) (words_are known x fit)) (words_say known x fit)
 

@@ -10,3 +10,4 @@ pub mod Checks
 pub mod Mapped
 pub mod Drafts
 pub mod Printing
+pub mod Written

@@ -8,7 +8,7 @@ use Rattle.scene_text.specs.declared.whole.SceneFail.{SceneFail}
 use Rattle.scene_text.specs.declared.whole.SceneFail.TheVariants.{NoMemory, Bad}
 use Rattle.scene_text.specs.declared.checks.Refused.{Refused}
 use Rattle.scene_text.specs.declared.checks.Refused.TheVariants as refused
-use Rattle.scene_text.specs.Texts.{Flaw}
+use Rattle.scene_text.specs.Texts.{Flaw, printed, MeetsGrammar}
 use Rattle.scene_text.specs.Scenes.{scene_lines}
 
 -- the kind is the one that is said, unless memory ran out
@@ -30,6 +30,16 @@ Fails (Bad line kind) said = said ≡ Err (record { line = line; kind = kind })
 abbrev pub Reads : Result Scene SceneFail → Result (List Line) Flaw → Type 0
 Reads (Ok scene) said = said ≡ Ok (scene_lines scene)
 Reads (Err e) said = Fails e said
+
+-- the answer is this scene, as a whole, unless memory ran out
+abbrev pub IsRead : Result Scene SceneFail → Scene → Type 0
+IsRead (Ok x) scene = x ≡ scene
+IsRead (Err NoMemory) scene = Unit {0}
+IsRead (Err (Bad line kind)) scene = ⊥
+
+-- where the text is what is printed of a scene whose lines meet the grammar, the answer is this scene
+abbrev pub ReadsPrinted : Result Scene SceneFail → List ℕ → Type 0
+ReadsPrinted result text = (scene : Scene) → MeetsGrammar scene → text ≡ printed scene → IsRead result scene
 
 -- header lines stand before the first script, and calls behind it
 abbrev pub IsPlaced : Known → Line → Type 0

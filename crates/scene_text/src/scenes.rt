@@ -1,10 +1,12 @@
 //! Reading a scene, line by line.
 
 ghost use Rattle.std.specs.Prelude.{◌≡◌, ◌+◌, [], OnOk, IfOk};
+ghost use Rattle.scene_text.specs.declared.whole.Scene.{Scene};
 ghost use Rattle.pg_words.specs.Cut.{lines_behind};
 ghost use Rattle.scene_text.specs.Texts.{is_skipped, said_behind, said};
+ghost use Rattle.scene_text.specs.Written.{IsWritten, ReadsScene};
 ghost use Rattle.scene_text.specs.Drafts.{IsWhole, IsPlacedBy, IsBehind, Takes, IsDrafted};
-ghost use Rattle.scene_text.specs.Results.{Reads};
+ghost use Rattle.scene_text.specs.Results.{Reads, IsRead, ReadsPrinted};
 
 use crate::checks::{FIRST_LINE, NOT_TEXT, Refused};
 use crate::draft::Draft;
@@ -85,9 +87,9 @@ fn read_lines(alloc: Global, behind: Option<&[u8]>) -> Result<Draft, SceneFail>
     Ok(draft)
 }
 
-/// What a scene's text says, or its first bad line with the first kind of bad line that it is.
+/// What a text says, or its first bad line.
 #[tactic(auto, unfolding(crate::specs::Texts::said))]
-pub fn scene(alloc: Global, text: &[u8]) -> Result<Scene, SceneFail>
+fn read_text(alloc: Global, text: &[u8]) -> Result<Scene, SceneFail>
     ensures { Reads result (said text.now) }
 {
     let (first, behind) = cut(text);
@@ -105,4 +107,16 @@ pub fn scene(alloc: Global, text: &[u8]) -> Result<Scene, SceneFail>
     }
     let draft = read_lines(alloc, behind)?;
     Ok(draft.finish()?)
+}
+
+/// The scene that a text says, or the text's first bad line with the first kind of bad line that it is. The scene meets
+/// the grammar, and no other scene is said by the text: what `print` makes of a scene whose lines meet the grammar is
+/// read as that scene.
+pub fn scene(alloc: Global, text: &[u8]) -> Result<Scene, SceneFail>
+    ensures said { Reads result (said text.now) }
+    ensures exact { ReadsScene result text.now }
+    ensures only { (scene : Scene) → IsWritten text.now scene → IsRead result scene }
+    ensures print_again { ReadsPrinted result text.now }
+{
+    read_text(alloc, text)
 }

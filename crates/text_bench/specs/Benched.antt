@@ -6,7 +6,7 @@ use Rattle.scene_text.specs.declared.whole.Scene.{Scene}
 use Rattle.scene_text.specs.Texts.{printed, IsScene}
 use Rattle.pg_report.specs.declared.line.Line.{Line}
 use Rattle.pg_report.specs.Journal.{journal}
-use Rattle.pg_report.specs.Reading.{IsJournal}
+use Rattle.pg_report.specs.Grammar.{IsJournal}
 
 -- what was printed is the one form of what the text says
 pub record IsSceneAgain (text again : List ℕ) : Type 0 where

@@ -1,5 +1,5 @@
 use Rattle.std.proofs.Common.{◌++◌}
-use Rattle.pg_report.specs.Replies.{bit_files, files_text}
+use Rattle.pg_report.specs.Forms.{bit_files, files_text}
 use Rattle.pg_report.proofs.FileFacts.{one_listed, none_listed}
 use Rattle.pg_report.proofs.reply_words.put_files.Goals as goal
 use Rattle.pg_report.proofs.reply_words.put_files.Goals.{then-rest-eq1+in_ok-put_file, else-rest-eq1}

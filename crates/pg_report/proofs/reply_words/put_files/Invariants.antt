@@ -1,5 +1,5 @@
 use Rattle.std.proofs.Common.{◌≡◌, ◌++◌, ◌-◌}
-use Rattle.pg_report.specs.Replies.{bit_files, files_text}
+use Rattle.pg_report.specs.Forms.{bit_files, files_text}
 use Rattle.pg_report.specs.ReplyParts.{listed}
 use Rattle.pg_report.proofs.reply_words.put_files.Given as goal
 

@@ -39,13 +39,13 @@ use Rattle.scene_text.proofs.LoopFacts.{skips, speaks, is_bad, at_end}
 
 -- ---- rows of columns
 
-row1_takes : {A X P : Type 0} (a : List ℕ → Option A) (make : A → X) (ws : List (List ℕ)) (y : X) → row1 a make ws ≡ Some y
+pub row1_takes : {A X P : Type 0} (a : List ℕ → Option A) (make : A → X) (ws : List (List ℕ)) (y : X) → row1 a make ws ≡ Some y
     → ((w : List ℕ) (x : A) → a w ≡ Some x → make x ≡ y → P) → P
 row1_takes a make [] y e k = absurd cc
 row1_takes a make (w ∷ []) y e k = let m = map_takes make (a w) y e in k w m.0 m.1 m.2
 row1_takes a make (w ∷ v ∷ ws) y e k = absurd cc
 
-some_takes : {X : Type 0} (x y : X) → Some x ≡ Some y → x ≡ y
+pub some_takes : {X : Type 0} (x y : X) → Some x ≡ Some y → x ≡ y
 some_takes x y e = cc
 
 row2_takes : {A B X P : Type 0} (a : List ℕ → Option A) (b : List ℕ → Option B) (make : A → B → X) (ws : List (List ℕ)) (z : X) → row2 a b make ws ≡ Some z
@@ -77,21 +77,21 @@ named_small letter w n e = (name_takes (2 ^ 64) letter n w (omega arith) e).fits
 near : (w : List ℕ) (n : ℕ) → address w ≡ Some n → n < 2 ^ 47
 near w n e = (address_takes (2 ^ 47) n w (omega arith) e).fits
 
-path_same : (w path : List ℕ) → path_word w ≡ Some path → w ≡ path
+pub path_same : (w path : List ℕ) → path_word w ≡ Some path → w ≡ path
 unfolding path_word
 path_same w path e = some_takes w path (guarded_takes _ _ path e).1
 
 is_path : (w path : List ℕ) → path_word w ≡ Some path → IsPath path
 is_path w path e = subst (λ (v : List ℕ). path_word v ≡ Some path) (path_same w path e) e
 
-named_takes : {A : Type 0} (text : A → List ℕ) (table : List A) (w : List ℕ) (x : A) → named text table w ≡ Some x → w ≡ text x
+pub named_takes : {A : Type 0} (text : A → List ℕ) (table : List A) (w : List ℕ) (x : A) → named text table w ≡ Some x → w ≡ text x
 named_takes text [] w x e = absurd cc
 named_takes text (first ∷ others) w x e =
     chosen (bytes_eq w (text first)) _ _ _ e
     (λ t e. is_word_text w (text first) t ∙ ap text (some_takes first x e))
     (λ e. named_takes text others w x e)
 
-flags_same : (w : List ℕ) (flags : ProcFlags) → flags_word w ≡ Some flags → w ≡ declared_text flags
+pub flags_same : (w : List ℕ) (flags : ProcFlags) → flags_word w ≡ Some flags → w ≡ declared_text flags
 unfolding flags_word
 flags_same w flags e = named_takes declared_text declared_flags w flags e
 
@@ -121,15 +121,15 @@ head_form hword.Fail columns h e = row2_takes file_name number (λ f n. head.Fai
 
 -- ---- tests in their order
 
-unless : {A : Type 0} (t : Bool) (k : ℕ) (r : Result A ℕ) (x : A) → cond t (Err k) r ≡ Ok x → (t ≡ false) × (r ≡ Ok x)
+pub unless : {A : Type 0} (t : Bool) (k : ℕ) (r : Result A ℕ) (x : A) → cond t (Err k) r ≡ Ok x → (t ≡ false) × (r ≡ Ok x)
 unless true k r x e = absurd cc
 unless false k r x e = (refl, e)
 
-not_false : (t : Bool) → not t ≡ false → t ≡ true
+pub not_false : (t : Bool) → not t ≡ false → t ≡ true
 not_false true e = refl
 not_false false e = absurd cc
 
-ok_takes : {A : Type 0} (x y : A) → ◌≡◌ {A = Result A ℕ} (Ok x) (Ok y) → x ≡ y
+pub ok_takes : {A : Type 0} (x y : A) → ◌≡◌ {A = Result A ℕ} (Ok x) (Ok y) → x ≡ y
 ok_takes x y e = cc
 
 pub record Checked {A : Type 0} (known in_range : A → Bool) (o : Option A) (x : A) : Type 0 where
@@ -137,7 +137,7 @@ pub record Checked {A : Type 0} (known in_range : A → Bool) (o : Option A) (x 
   pub names : known x ≡ true
   pub ranges : in_range x ≡ true
 
-checked_takes : {A : Type 0} (known in_range : A → Bool) (o : Option A) (x : A) → checked known in_range o ≡ Ok x → Checked known in_range o x
+pub checked_takes : {A : Type 0} (known in_range : A → Bool) (o : Option A) (x : A) → checked known in_range o ≡ Ok x → Checked known in_range o x
 checked_takes known in_range None x e = absurd cc
 checked_takes known in_range (Some y) x e =
     let a = unless (not (known y)) unknown _ x e in
@@ -214,7 +214,7 @@ call_fits known w columns c e =
 
 -- ---- lines
 
-as_line_takes : {A : Type 0} (make : A → Line) (r : Result A ℕ) (x : Line) → as_line make r ≡ Ok x → (y : A) × (r ≡ Ok y) × (make y ≡ x)
+pub as_line_takes : {A : Type 0} (make : A → Line) (r : Result A ℕ) (x : Line) → as_line make r ≡ Ok x → (y : A) × (r ≡ Ok y) × (make y ≡ x)
 as_line_takes make (Ok y) x e = (y, refl, ok_takes (make y) x e)
 as_line_takes make (Err k) x e = absurd cc
 
@@ -234,7 +234,7 @@ said_fits : (known : Known) (ws : List (List ℕ)) (x : Line) → said_of known 
 said_fits known [] x e = absurd cc
 said_fits known (w ∷ columns) x e = keyword_fits known (keyword_of w) columns x e
 
-line_fits : (known : Known) (text : List ℕ) (x : Line) → line_of known text ≡ Ok x → IsFit known x
+pub line_fits : (known : Known) (text : List ℕ) (x : Line) → line_of known text ≡ Ok x → IsFit known x
 unfolding line_of
 line_fits known text x e = said_fits known (words_of text) x (unless (not (list_all is_text_byte text)) _ _ x e).1
 
@@ -246,7 +246,7 @@ record Fits (above all : List Line) : Type 0 where
   pub is : all ≡ above ++ more
   pub fit : AreFit above more
 
-lines_take : {A : Type 0} (x y : A) → ◌≡◌ {A = Result A Flaw} (Ok x) (Ok y) → x ≡ y
+pub lines_take : {A : Type 0} (x y : A) → ◌≡◌ {A = Result A Flaw} (Ok x) (Ok y) → x ≡ y
 lines_take x y e = cc
 
 one_more : (above : List Line) (n : ℕ) (t : List ℕ) (ts : List (List ℕ)) (all : List Line) (s : Bool) (r : Result Line ℕ)
