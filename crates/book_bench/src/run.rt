@@ -62,7 +62,7 @@ fn open(alloc: Global, callers: usize, draws: u64) -> Result<(Book<u64>, Vec<Han
     let needs = table_of(alloc, callers, draws)?;
     let (book, spines, passes) = match Book::open(alloc, needs) {
         Ok(opened) => opened,
-        Err(OpenFail::NoMemory) => return Err(BenchFail::NoMemory),
+        Err(OpenFail::NoMemory { .. }) => return Err(BenchFail::NoMemory),
         Err(
             OpenFail::Found {
                 back: _needs,

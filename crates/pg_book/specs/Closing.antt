@@ -5,14 +5,11 @@ use Rattle.pg_book.specs.declared.receipt.Stamped.{Stamped}
 use Rattle.pg_book.specs.Needs.{parts_of}
 use Rattle.pg_book.specs.Lists.{Among, Rising}
 use Rattle.pg_book.specs.Views.{list_at}
+pub use Rattle.pg_book.specs.Stamps.{stamped}
 use Rattle.pg_book.specs.Models.{SpineOf, PassOf, BookOf, spine_receipts, pass_receipts, IsSpineAt, IsPassAt}
 use Rattle.pg_book.specs.Opening.{EachFrom}
 
 module _ {E : Type 0} where
-  -- the entry of a receipt, as the history of a closed book has it
-  abbrev pub stamped : Receipt E → Stamped E
-  stamped r = record { stamp = r.stamp; part = r.part; caller = r.caller; entry = r.entry }
-
   -- the receipts of all spines, one spine after another
   abbrev pub flat : List (SpineOf E) → List (Receipt E)
   flat [] = []

@@ -5,6 +5,7 @@ pub mod Kinds
 pub mod Rule
 pub mod Tells
 pub mod Steps
+pub mod Stamps
 pub mod Models
 pub mod Knowing
 pub mod Outcomes

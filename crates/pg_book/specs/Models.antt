@@ -1,9 +1,11 @@
 -- What contracts see of a spine, a pass and a book: which book it is, its number, and what it knows.
-use Rattle.std.specs.Prelude.{◌≡◌, ℕ, ◌<◌, ◌≤◌, List, length, None, vec_len, vec_capacity}
+use Rattle.std.specs.Prelude.{◌≡◌, ℕ, ◌<◌, ◌≤◌, List, length, map, None, vec_len, vec_capacity}
 use Rattle.std.specs.Global.{Vec}
 use Rattle.atomic_table.specs.Seated.{TableId}
 use Rattle.pg_book.specs.declared.receipt.Receipt.{Receipt}
+use Rattle.pg_book.specs.declared.receipt.Stamped.{Stamped}
 use Rattle.pg_book.specs.declared.view.View.{View}
+use Rattle.pg_book.specs.Stamps.{stamped}
 use Rattle.pg_book.specs.Needs.{parts_of, part_entries}
 use Rattle.pg_book.specs.Views.{list_at, caller_name, caller_list, Holds, Sound}
 
@@ -53,11 +55,11 @@ module _ {E : Type 0} where
     pub holds : Holds v part
     pub only : (k : ℕ) → Holds v k → k ≡ part
 
-  -- the receipts of the part that the view knows, in a vector with room for all entries that callers need there
-  pub record AreReceiptsOf (part : ℕ) (v : View E) (receipts : Vec (Receipt E)) : Type 0 where
-    pub items : receipts.items ≡ list_at v part
-    pub count : vec_len receipts ≡ length (list_at v part)
-    pub room : part_entries v.needs part ≤ vec_capacity receipts
+  -- the entries of the part that the view knows, in a vector with room for all that callers need there
+  pub record AreEntriesOf (part : ℕ) (v : View E) (entries : Vec (Stamped E)) : Type 0 where
+    pub items : entries.items ≡ map stamped (list_at v part)
+    pub count : vec_len entries ≡ length (list_at v part)
+    pub room : part_entries v.needs part ≤ vec_capacity entries
 
   -- the view holds the caller, and nothing else
   pub record IsPassView (caller : ℕ) (v : View E) : Type 0 where

@@ -17,9 +17,9 @@ module _ {E : Type 0} where
   -- an empty list with this room, beside the table
   pub record IsPartRoom (table : TableId) (room : ℕ) (r : PartRoom E) : Type 0 where
     pub same : (arc_value r.table).shared.table_id ≡ table
-    pub empty : r.receipts.items ≡ []
-    pub count : vec_len r.receipts ≡ 0
-    pub roomy : vec_capacity r.receipts ≡ room
+    pub empty : r.entries.items ≡ []
+    pub count : vec_len r.entries ≡ 0
+    pub roomy : vec_capacity r.entries ≡ room
 
   -- the first seat, room for each part, and room for the spines and passes
   pub record IsPrepared (needs : List (List Needs)) (p : Prepared E) : Type 0 where

@@ -7,8 +7,8 @@ use std::sync::Arc;
 /// Why a book was not opened.
 #[derive(Drop)]
 pub enum OpenFail<T> {
-    /// There was no memory. What was handed in does not come back.
-    NoMemory,
+    /// There was no memory. `back` is what was handed in.
+    NoMemory { back: T },
     /// The number of a name was wanted, and another was found. `wanted` is the number of a part, or the number of
     /// parts plus that of a caller, and `found` differs from it. `back` is what was handed in.
     Found { back: T, wanted: u64, found: u64 },

@@ -10,7 +10,7 @@ ghost use Rattle.pg_book.specs.Opening.{EachFrom};
 
 use crate::book::Book;
 use crate::pass::Pass;
-use crate::receipt::{Receipt, Stamped};
+use crate::receipt::Stamped;
 use crate::rule::{BookSeat, BookShared};
 use crate::spine::Spine;
 use crate::steps::{look, take_in};
@@ -40,7 +40,7 @@ fn count_of<E: Drop>(spines: &[Spine<E>]) -> Option<usize>
 fn entries_on<E: Drop>(spine: &Spine<E>) -> usize
     ensures { result ≡ length (flat (spine.now ∷ [])) }
 {
-    spine.receipts.len()
+    spine.entries.len()
 }
 
 // The seat takes in another, and looks.
@@ -54,31 +54,6 @@ fn absorb<E>(shared: &BookShared<E>, seat: &mut BookSeat<E>, other: BookSeat<E>)
 {
     take_in(shared, seat, other);
     look(shared, seat);
-}
-
-// Puts the receipts behind the entries.
-fn add_receipts<E: Drop>(entries: &mut Vec<Stamped<E>>, receipts: Vec<Receipt<E>>)
-    requires { vec_len entries.old + length receipts.items ≤ vec_capacity entries.old }
-    ensures items { entries.new.items ≡ entries.old.items ++ map stamped receipts.items }
-    ensures count { vec_len entries.new ≡ vec_len entries.old + length receipts.items }
-    ensures room { vec_capacity entries.old ≤ vec_capacity entries.new }
-{
-    for receipt in receipts {
-        let Receipt {
-            part,
-            caller,
-            stamp,
-            entry,
-        } = receipt;
-        let Ok(()) = entries.push(Stamped {
-            stamp,
-            part,
-            caller,
-            entry,
-        }) else {
-            unreachable!()
-        };
-    }
 }
 
 // Takes in the spine's seat, and its entries.
@@ -102,10 +77,12 @@ fn take_spine<E: Drop>(
         table: _,
         seat: other,
         part: _,
-        receipts,
+        entries: mut others,
     } = spine;
     absorb(shared, seat, other);
-    add_receipts(entries, receipts);
+    let Ok(()) = entries.append(&mut others) else {
+        unreachable!()
+    };
 }
 
 fn take_pass<E: Drop>(shared: &BookShared<E>, seat: &mut BookSeat<E>, pass: Pass<E>)

@@ -6,13 +6,13 @@ ghost use Rattle.pg_book.specs.Kinds.{first, note, named};
 ghost use Rattle.pg_book.specs.Views.{Sound};
 ghost use Rattle.pg_book.specs.Steps.{IsSeatOf};
 ghost use Rattle.pg_book.specs.Opening.{EachFrom, IsOpenable, IsOpened, IsNewSpine, IsNewPass};
-ghost use Rattle.pg_book.specs.Fails.{IsFoundOnly};
+ghost use Rattle.pg_book.specs.Fails.{IsRefused};
 ghost use Rattle.pg_book.specs.Prepared.{IsPartRoom, IsPrepared, IsFirst, IsMissed};
 
 use crate::book::{Book, OpenFail};
 use crate::needs::{AllNeeds, Needs};
 use crate::pass::Pass;
-use crate::receipt::Receipt;
+use crate::receipt::Stamped;
 use crate::rule::{BookSeat, BookShared, BookTable};
 use crate::spine::Spine;
 use crate::steps::{note_of, register};
@@ -23,7 +23,7 @@ use std::sync::Arc;
 #[derive(Drop)]
 struct PartRoom<E> {
     table: Arc<BookTable<E>, Global>,
-    receipts: Vec<Receipt<E>>,
+    entries: Vec<Stamped<E>>,
 }
 
 // The name that was wanted, and the number that was found.
@@ -86,7 +86,7 @@ fn part_room<E: Drop>(
 {
     Ok(PartRoom {
         table: Arc::try_clone(table)?,
-        receipts: Vec::with_capacity(alloc, room as usize)?,
+        entries: Vec::with_capacity(alloc, room as usize)?,
     })
 }
 
@@ -153,12 +153,12 @@ fn spine_of<E: Drop>(
     ensures err { IfErr result (IsMissed seat.old.me.0.needs) }
 {
     let made = seat_of(&room.table.shared, seat, u64::from(part))?;
-    let PartRoom { table, receipts } = room;
+    let PartRoom { table, entries } = room;
     Ok(Spine {
         table,
         seat: made,
         part,
-        receipts,
+        entries,
     })
 }
 
@@ -240,20 +240,20 @@ impl<E: Drop> Book<E> {
     /// `needs` has a list for at least one caller, and an element for each part in each list. There are fewer than
     /// 2^32 callers and fewer than 2^32 parts, and the entries of all elements sum to less than 2^63.
     ///
-    /// There are two refusals. `NoMemory`: nothing comes back. `Found`: `needs` come back, with `wanted`, which is
-    /// below the number of parts and callers together, and another number, `found`.
+    /// There are two refusals, and `needs` come back with either. `Found` has besides `wanted`, which is below the
+    /// number of parts and callers together, and another number, `found`.
     pub fn open(
         alloc: Global,
         needs: AllNeeds,
     ) -> Result<(Book<E>, Vec<Spine<E>>, Vec<Pass<E>>), OpenFail<AllNeeds>>
         requires openable { IsOpenable (rows needs) }
         ensures opened { IfOk result (λ r. IsOpened (rows needs) r.0 r.1.items r.2.items) }
-        ensures found { IfErr result (IsFoundOnly needs (names_of (rows needs))) }
+        ensures refused { IfErr result (IsRefused needs (names_of (rows needs))) }
     {
         let callers = needs.len();
         let parts = parts_in(needs.as_slice());
         let Ok(prepared) = prepare(alloc, &needs, parts) else {
-            return Err(OpenFail::NoMemory);
+            return Err(OpenFail::NoMemory { back: needs });
         };
         match fill(alloc, prepared, parts as u64, callers as u32) {
             Ok(opened) => Ok(opened),

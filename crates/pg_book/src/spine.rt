@@ -5,7 +5,7 @@ ghost use Rattle.pg_book.specs.Outcomes.{Meets, Draws};
 
 use crate::meeting::{draw_between, tell};
 use crate::pass::Pass;
-use crate::receipt::Receipt;
+use crate::receipt::{Receipt, Stamped};
 use crate::rule::{BookSeat, BookTable};
 use std::alloc::Global;
 use std::marker::Model;
@@ -17,14 +17,14 @@ pub struct Spine<E> {
     pub(crate) table: Arc<BookTable<E>, Global>,
     pub(crate) seat: BookSeat<E>,
     pub(crate) part: u32,
-    pub(crate) receipts: Vec<Receipt<E>>,
+    pub(crate) entries: Vec<Stamped<E>>,
 }
 
 impl<E> Model for Spine<E> {
     ghost use Rattle.std.specs.Prelude.{◌≡◌, []};
     ghost use Rattle.std.specs.Arc.{arc_value};
     ghost use Rattle.pg_book.specs.Steps.{IsSeatOf};
-    ghost use Rattle.pg_book.specs.Models.{SpineOf, IsSpineView, AreReceiptsOf};
+    ghost use Rattle.pg_book.specs.Models.{SpineOf, IsSpineView, AreEntriesOf};
 
     ghost Value = { SpineOf E };
 
@@ -34,7 +34,7 @@ impl<E> Model for Spine<E> {
         IsSeatOf (arc_value s.table).shared.table_id s.seat.table_id
         × (s.seat.me.1 ≡ [])
         × IsSpineView s.part s.seat.me.0
-        × AreReceiptsOf s.part s.seat.me.0 s.receipts };
+        × AreEntriesOf s.part s.seat.me.0 s.entries };
 }
 
 impl<E: Drop> Spine<E> {
@@ -82,15 +82,12 @@ impl<E: Drop> Spine<E> {
             caller,
             &entry,
         );
-        let Ok(()) = self.receipts.push(Receipt {
+        self.entries.push_reserved(Stamped {
+            stamp,
             part,
             caller,
-            stamp,
             entry,
-        })
-        else {
-            unreachable!()
-        };
+        });
         Receipt {
             part,
             caller,

@@ -239,7 +239,7 @@ fn an_ordinary_open_finds_its_names(rt: HostRuntime) -> Result<(), Fail> {
             assert_eq!(rt; (spines.len(), passes.len()), (5, 3));
             Ok(())
         }
-        Err(OpenFail::NoMemory) => panic!(rt; "no memory"),
+        Err(OpenFail::NoMemory { .. }) => panic!(rt; "no memory"),
         Err(OpenFail::Found { wanted, found, .. }) => {
             panic!(rt; "{found} was found where {wanted} was wanted")
         }

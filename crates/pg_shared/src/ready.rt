@@ -2,7 +2,7 @@
 
 ghost use Rattle.std.specs.Prelude.{◌≡◌, ◌+◌, ◌≤◌, ℕ, length, IfOk, IfErr};
 ghost use Rattle.std.specs.Vec.Iter.{into_iter_items};
-ghost use Rattle.pg_book.specs.Fails.{IsFoundOnly};
+ghost use Rattle.pg_book.specs.Fails.{IsRefused};
 ghost use Rattle.pg_book.specs.Needs.{names_of};
 ghost use Rattle.pg_book.specs.Opening.{EachFrom, IsNewSpine};
 ghost use Rattle.pg_parts.specs.Opened.{IsOpenable};
@@ -70,7 +70,7 @@ impl<P: Pager, D: Digester + Drop> Ready<P, D> {
     /// Opens a run of these parts, which were just opened, with a pass for each worker. The passes stand in the order of the
     /// workers' numbers. There is at least one worker, and room for all that the workers may use.
     ///
-    /// There are two refusals. `NoMemory`: nothing comes back. `Found`: the parts come back, where a name of the book wanted
+    /// There are two refusals, and the parts come back with either: `NoMemory`, and `Found` where a name of the book wanted
     /// another number than was found.
     pub fn open(
         alloc: Global,
@@ -79,7 +79,7 @@ impl<P: Pager, D: Digester + Drop> Ready<P, D> {
         requires openable { IsOpenable D.hash opened }
         requires shared { IsShared opened }
         ensures opened { IfOk result (λ r. IsOpenedAs opened r.0 r.1.items) }
-        ensures found { IfErr result (IsFoundOnly opened (names_of opened.needs)) }
+        ensures refused { IfErr result (IsRefused opened (names_of opened.needs)) }
     {
         let start = Snapshot::of(&opened);
         let Opened {
@@ -90,12 +90,22 @@ impl<P: Pager, D: Digester + Drop> Ready<P, D> {
             trusted,
             needs,
         } = opened;
+        let known = match Known::of(alloc, files.as_slice(), processes.as_slice(), &trusted) {
+            Ok(known) => known,
+            Err(NoMemory) => {
+                let back = Opened {
+                    page_size,
+                    adhoc,
+                    files,
+                    processes,
+                    trusted,
+                    needs,
+                };
+                return Err(OpenFail::NoMemory { back });
+            }
+        };
         match Book::open(alloc, needs) {
             Ok((book, spines, passes)) => {
-                let Ok(known) = Known::of(alloc, files.as_slice(), processes.as_slice(), &trusted)
-                else {
-                    return Err(OpenFail::NoMemory);
-                };
                 let ready = Ready {
                     alloc,
                     page_size,
@@ -110,7 +120,17 @@ impl<P: Pager, D: Digester + Drop> Ready<P, D> {
                 };
                 Ok((ready, passes))
             }
-            Err(OpenFail::NoMemory) => Err(OpenFail::NoMemory),
+            Err(OpenFail::NoMemory { back }) => {
+                let back = Opened {
+                    page_size,
+                    adhoc,
+                    files,
+                    processes,
+                    trusted,
+                    needs: back,
+                };
+                Err(OpenFail::NoMemory { back })
+            }
             Err(
                 OpenFail::Found {
                     back,

@@ -71,7 +71,7 @@ fn a_run_without_events(rt: HostRuntime) -> Result<(), Fail> {
     let parts = parts(rt.alloc())?;
     let (ready, passes) = match Ready::open(rt.alloc(), parts) {
         Ok(opened) => opened,
-        Err(OpenFail::NoMemory) => return Err("no memory".into()),
+        Err(OpenFail::NoMemory { .. }) => return Err("no memory".into()),
         Err(OpenFail::Found { .. }) => return Err("another number was found".into()),
     };
     assert_eq!(rt; passes.len(), 2);

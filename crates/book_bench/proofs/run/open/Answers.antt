@@ -1,7 +1,7 @@
 use Rattle.std.proofs.Common.{◌≡◌, ◌≢◌, ℕ, ◌+◌, ◌<◌, sym, ap, ◌∙◌, subst}
 use Rattle.pg_book.specs.declared.book.OpenFail.TheVariants.{Found}
 use Rattle.pg_book.specs.Needs.{names_of, rows}
-use Rattle.pg_book.specs.Fails.{IsFoundOnly}
+use Rattle.pg_book.specs.Fails.{IsRefused}
 use Rattle.pg_book.specs.Opening.{IsOpenable, IsOpened}
 use Rattle.book_bench.specs.declared.fail.BenchFail.TheVariants.{NoClock, NotOpened}
 use Rattle.book_bench.specs.Fails.{IsRunFail}
@@ -16,7 +16,7 @@ open-requires c = record { openable = subst IsOpenable (sym c.in_ok-needs.ensure
 pub returns-in-Err-Found-clause-fails : goal.returns-in-Err-Found-clause-fails
 returns-in-Err-Found-clause-fails c =
     let names : names_of (rows c.in_ok-needs.needs) ≡ c.args.callers + c.args.callers = ap names_of c.in_ok-needs.ensures ∙ own_names c.args.draws c.args.callers in
-    let is : IsFoundOnly c.in_ok-needs.needs (names_of (rows c.in_ok-needs.needs)) (Found c.in-Err-Found._needs c.in-Err-Found.wanted c.in-Err-Found.found) = subst (IsFoundOnly _ _) c.in-Err-Found.field-0-is c.in-Err-Found.ensures.found in
+    let is : IsRefused c.in_ok-needs.needs (names_of (rows c.in_ok-needs.needs)) (Found c.in-Err-Found._needs c.in-Err-Found.wanted c.in-Err-Found.found) = subst (IsRefused _ _) c.in-Err-Found.field-0-is c.in-Err-Found.ensures.refused in
     let name : c.in-Err-Found.wanted < c.args.callers + c.args.callers = subst (λ n. c.in-Err-Found.wanted < n) names is.1 in
     subst (λ (x : ℕ × ℕ). (NotOpened x.0 x.1 ≢ NoClock) × IsRunFail c.args.callers (NotOpened x.0 x.1)) (λ i. (sym c.in-Err-Found.wanted-is i, sym c.in-Err-Found.found-is i)) ((λ e. cc), (name, is.2))
 

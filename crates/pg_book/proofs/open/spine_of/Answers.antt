@@ -1,9 +1,10 @@
-use Rattle.std.proofs.Common.{◌≡◌, ℕ, [], length, refl, sym, ap, ◌∙◌, subst, le_of_eq, arith, ◌<◌}
+use Rattle.std.proofs.Common.{◌≡◌, ℕ, [], length, map, refl, sym, ap, ◌∙◌, subst, le_of_eq, arith, ◌<◌}
 use Rattle.pg_book.specs.declared.view.View.{View}
 use Rattle.pg_book.specs.Needs.{part_entries, names_of}
 use Rattle.pg_book.specs.Views.{list_at, Sound}
 use Rattle.pg_book.specs.Kinds.{first, note, named}
 use Rattle.pg_book.specs.Models.{IsSpineView}
+use Rattle.pg_book.specs.Stamps.{stamped}
 use Rattle.pg_book.specs.Opening.{KnowsNothing}
 use Rattle.pg_book.proofs.Openings.{new_spine, knows_nothing}
 use Rattle.pg_book.proofs.open.spine_of.Goals as goal
@@ -20,7 +21,7 @@ invariant_of-result g c =
       record { same = o.0 ∙ sym s.same; words = ap (λ z. z.words) s.same ∙ c.requires.words },
       ap (λ m. m.1) is,
       subst (λ (v : View g.row.E.Denot). IsSpineView c.args.part v) (sym view) (new_spine c.args.seat.now.me.0.needs c.requires.view.small c.args.part c.requires.part sound),
-      record { items = s.empty ∙ sym none; count = s.count ∙ sym (ap length none); room = le_of_eq (ap (λ (v : View g.row.E.Denot). part_entries v.needs c.args.part) view ∙ sym s.roomy) },
+      record { items = s.empty ∙ sym (ap (map stamped) none); count = s.count ∙ sym (ap length none); room = le_of_eq (ap (λ (v : View g.row.E.Denot). part_entries v.needs c.args.part) view ∙ sym s.roomy) },
     )
 
 pub returns-clause-ok : goal.returns-clause-ok

@@ -1,9 +1,12 @@
-use Rattle.std.proofs.Common.{◌<◌, ◌≤◌, IsOk, ℕ, ◌+◌, List, [], ◌∷◌, ◌++◌, vec_len, vec_capacity, length, length-append, le_trans, true≢false, ap, sym, ◌∙◌, subst, arith}
+use Rattle.std.proofs.Common.{◌≤◌, ℕ, ◌+◌, List, [], ◌∷◌, ◌++◌, vec_capacity, length, map, length-append, le_trans, le_of_eq, ap, sym, ◌∙◌, subst, arith}
 use Rattle.pg_book.specs.declared.needs.Needs.{Needs}
 use Rattle.pg_book.specs.Needs.{part_entries}
 use Rattle.pg_book.specs.Views.{list_at}
 use Rattle.pg_book.specs.Kinds.{receipt_of}
+use Rattle.pg_book.specs.declared.receipt.Receipt.{Receipt}
+use Rattle.pg_book.specs.Stamps.{stamped}
 use Rattle.pg_book.specs.Models.{SpineOf, PassOf}
+use Rattle.pg_book.proofs.Gathering.{map_join}
 use Rattle.pg_book.specs.Knowing.{HasRoom}
 use Rattle.pg_book.specs.Outcomes.{Draws}
 use Rattle.pg_book.proofs.Models.{draws_of}
@@ -13,27 +16,28 @@ pub draw_between-stamp-requires-clause-room : goal.draw_between-stamp-requires-c
 draw_between-stamp-requires-clause-room g c =
     subst (λ (x : SpineOf g.row.E.Denot × PassOf g.row.E.Denot). HasRoom x.0.part x.1.caller x.1.view) (λ i. (sym c.self.view_is i, sym c.pass.view_is i)) c.requires.room
 
-pub unreachable-requires : goal.unreachable-requires
-unreachable-requires g c =
+pub push_reserved-requires : goal.push_reserved-requires
+push_reserved-requires g c =
     let d = c.draw_between-stamp.ensures.drawn.space in
     let r = c.self.invariant.3 in
-    let lt : vec_len c.self.inside.receipts < vec_capacity c.self.inside.receipts = omega (arith, d, r) in
-    true≢false (sym (subst IsOk c.in_default.is (c.push.ensures.succeeds lt)))
+    omega (arith, d, r)
 
 pub invariant_of-self : goal.invariant_of-self
 invariant_of-self g c =
     let d = c.draw_between-stamp.ensures.drawn in
     let t = c.draw_between-stamp.ensures.tables in
     let v = c.self.invariant in
-    let pushed = c.in-Ok.ensures in
+    let pushed = c.push_reserved.ensures in
+    let r : Receipt g.row.E.Denot = receipt_of c.self.inside.part c.pass.inside.number c.args.entry c.draw_between-stamp.result in
+    let known = list_at c.self.inside.seat.me.0 c.self.inside.part in
     let longer = ap length d.spine_list ∙ length-append (list_at c.self.inside.seat.me.0 c.self.inside.part) (receipt_of c.self.inside.part c.pass.inside.number c.args.entry c.draw_between-stamp.result ∷ []) in (
       record { same = t.0 ∙ v.0.same; words = v.0.words },
       c.draw_between-stamp.ensures.slots.0 ∙ v.1,
       d.spine,
       record {
-        items = pushed.items ∙ ap (λ l. l ++ receipt_of c.self.inside.part c.pass.inside.number c.args.entry c.draw_between-stamp.result ∷ []) v.3.items ∙ sym d.spine_list;
+        items = pushed.items ∙ ap (λ l. l ++ stamped r ∷ []) v.3.items ∙ sym (map_join stamped known (r ∷ [])) ∙ ap (map stamped) (sym d.spine_list);
         count = pushed.len ∙ ap (λ (n : ℕ). n + 1) v.3.count ∙ sym longer;
-        room = le_trans (subst (λ (n : List (List Needs)). part_entries n c.self.inside.part ≤ vec_capacity c.self.inside.receipts) (sym d.spine_kept.needs) v.3.room) c.push.ensures.capacity;
+        room = le_trans (subst (λ (n : List (List Needs)). part_entries n c.self.inside.part ≤ vec_capacity c.self.inside.entries) (sym d.spine_kept.needs) v.3.room) (le_of_eq (sym pushed.capacity));
       },
     )
 

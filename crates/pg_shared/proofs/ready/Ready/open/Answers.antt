@@ -21,12 +21,12 @@ invariant_of-ready g c =
       processes = c.opened.inside.processes.items;
       trust = c.opened.inside.trusted;
       needs = rows c.opened.inside.needs;
-    }) c.requires.openable c.requires.shared c.of-start.ensures c.opened.view_is c.in-Ok.book c.in-Ok.spines.items c.in-Ok.passes.items c.in-Ok.ensures.opened c.in-Ok-of.known
-    (c.in-Ok-of.ensures.files ∙ ap (λ (l : List ObjectNow). map known_of l) c.as_slice.ensures.value)
-    (c.in-Ok-of.ensures.declared ∙ ap (λ (l : List PlainProcess). map declared_of l) c.as_slice-in-Ok.ensures.value) c.in-Ok-of.ensures.fixed
+    }) c.requires.openable c.requires.shared c.of-start.ensures c.opened.view_is c.in-Ok-open.book c.in-Ok-open.spines.items c.in-Ok-open.passes.items c.in-Ok-open.ensures.opened c.in-Ok.known
+    (c.in-Ok.ensures.files ∙ ap (λ (l : List ObjectNow). map known_of l) c.as_slice.ensures.value)
+    (c.in-Ok.ensures.declared ∙ ap (λ (l : List PlainProcess). map declared_of l) c.as_slice-2.ensures.value) c.in-Ok.ensures.fixed
 
-pub returns-in-Ok-clause-opened : goal.returns-in-Ok-clause-opened
-returns-in-Ok-clause-opened g c =
+pub returns-in-Ok-open-clause-opened : goal.returns-in-Ok-open-clause-opened
+returns-in-Ok-open-clause-opened g c =
     opens-as g.D.Digester.hash c.args.opened c.of-start.result.value (record {
       page_size = c.opened.inside.page_size;
       adhoc = c.opened.inside.adhoc;
@@ -34,4 +34,4 @@ returns-in-Ok-clause-opened g c =
       processes = c.opened.inside.processes.items;
       trust = c.opened.inside.trusted;
       needs = rows c.opened.inside.needs;
-    }) c.requires.openable c.requires.shared c.of-start.ensures c.opened.view_is c.in-Ok.book c.in-Ok.spines.items c.in-Ok.passes.items c.in-Ok.ensures.opened
+    }) c.requires.openable c.requires.shared c.of-start.ensures c.opened.view_is c.in-Ok-open.book c.in-Ok-open.spines.items c.in-Ok-open.passes.items c.in-Ok-open.ensures.opened
