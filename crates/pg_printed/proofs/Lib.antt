@@ -1,2 +1,4 @@
 pub mod TextFacts
 pub mod HistoryFacts
+pub mod ScheduleFacts
+pub mod OrderFacts

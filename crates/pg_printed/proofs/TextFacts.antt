@@ -19,7 +19,8 @@ use Rattle.pg_report.specs.declared.line.Line.{Line}
 use Rattle.pg_report.specs.Events.{proc_event_words, event_words}
 use Rattle.pg_report.specs.Replies.{file_reply_words, reply_words, read_count}
 use Rattle.pg_report.specs.Journal.{entry_text, stamped_text, is_given, is_denied, summary, journal}
-use Rattle.pg_report.specs.Reading.{said, line_text_of, text_of}
+use Rattle.pg_report.specs.Reading.{said}
+use Rattle.pg_report.specs.Grammar.{line_text_of, text_of}
 use Rattle.pg_report.proofs.AgainFacts.{said_again}
 use Rattle.pg_report.proofs.LineAgain.{all_again}
 use Rattle.pg_printed.specs.Printed.{proc_event_told, event_told, file_reply_told, reply_told, line_told, IsHeld}

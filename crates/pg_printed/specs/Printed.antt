@@ -57,3 +57,10 @@ JournalsTellHistories =
     (hash : Hash) (o : Opening) (scripts others : List (List Call)) (one other : List (Stamped Entry)) (calls more : ℕ)
     → Legal hash o scripts one → Legal hash o others other → IsHeld one calls → IsHeld other more
     → journal one calls ≡ journal other more → (one ≡ other) × (calls ≡ more)
+
+-- Two legal histories of the same scripts from one opening are equal where their journals are: the scripts and the order of
+-- the workers fix each entry.
+abbrev pub ScriptsTellHistories : Type 0
+ScriptsTellHistories =
+    (hash : Hash) (o : Opening) (scripts : List (List Call)) (one other : List (Stamped Entry)) (calls more : ℕ) → length scripts < 2 ^ 64
+    → Legal hash o scripts one → Legal hash o scripts other → journal one calls ≡ journal other more → one ≡ other

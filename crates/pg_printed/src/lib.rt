@@ -6,4 +6,4 @@
 
 mod laws;
 
-pub use laws::equal_journals_are_of_one_history;
+pub use laws::{equal_journals_are_of_one_history, equal_journals_of_scripts_are_of_one_history};

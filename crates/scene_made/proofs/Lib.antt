@@ -1,3 +1,4 @@
 pub mod GrownFacts
 pub mod FitFacts
 pub mod LimitFacts
+pub mod OpenFacts

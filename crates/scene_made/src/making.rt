@@ -1,10 +1,11 @@
 //! A scene with its files, made of a number.
 
-ghost use Rattle.std.specs.Prelude.{◌≡◌, ◌≤◌, map, IfOk, string_bytes};
+ghost use Rattle.std.specs.Prelude.{◌≡◌, ◌≤◌, map, None, IfOk, string_bytes};
 ghost use Rattle.pg_digest.specs.Digests.{sha_hash};
 ghost use Rattle.scene_text.specs.Texts.{MeetsGrammar};
 ghost use Rattle.scene_text.specs.Scenes.{scene_lines};
 ghost use Rattle.scene_open.specs.Limits.{IsWithin};
+ghost use Rattle.scene_open.specs.Items.{items_told, items_end};
 ghost use Rattle.scene_made.specs.Made.{told, cdhash_of, names, file_bytes, four};
 ghost use Rattle.scene_made.specs.Made as specs;
 
@@ -48,7 +49,7 @@ fn files(alloc: Global, n: u64) -> Result<Named, NoMemory>
 
 /// The scene of a number from 1 to 1,000, and its files, none of which was read yet and no read of which fails: four
 /// files of 64 pages with bare code directories, four enforced processes, and four scripts of 1,003 calls, each on a file
-/// and a process of its own. The only error is want of memory.
+/// and a process of its own. No item of it ends its run early. The only error is want of memory.
 pub fn made(alloc: Global, n: u64) -> Result<(Scene, MemFiles), NoMemory>
     requires least { 1 ≤ n }
     requires most { n ≤ 1000 }
@@ -57,6 +58,7 @@ pub fn made(alloc: Global, n: u64) -> Result<(Scene, MemFiles), NoMemory>
     ensures faultless { IfOk result (λ made. made.1.faults ≡ 0) }
     ensures grammar { IfOk result (λ made. MeetsGrammar made.0) }
     ensures within { IfOk result (λ made. IsWithin (scene_lines made.0)) }
+    ensures opens { IfOk result (λ made. items_end 1 (items_told made.1.told made.0.head) ≡ None) }
 {
     let files = files(alloc, n)?;
     let head = heads(alloc, files.cdhashes)?;

@@ -8,26 +8,28 @@ use Rattle.pg_history.proofs.SoloFacts.{ordered_is_solo}
 use Rattle.pg_report.specs.Journal.{journal}
 use Rattle.pg_io.specs.Files.{Told, next_read}
 use Rattle.scene_open.specs.Items.{ReadsWithin}
-use Rattle.scene_run.specs.Ending.{Ending, Run, run_path, run_by, most_reads, reads_by, ended, Ends, Prints, PrintsLegal, RunsTo, IsEndOf, EndsTo, SaysBy}
+use Rattle.scene_run.specs.Ending.{Ending, Run, run_path, run_by, most_reads, reads_by, ended, Ends, Prints, PrintsLegal, RunsTo, OverSome, IsEndOf, EndsTo, Finishes, FinishesSolo}
+use Rattle.scene_run.proofs.EndingFacts.{map-some}
 use Rattle.scene_run.specs.Runs.{RunsSolo}
 
 module _ (hash : Hash) where
-  prints-legal : (run : Run) (text : List ℕ) → Prints (RunsSolo hash) run text → PrintsLegal hash run text
+  prints-legal : (run : Run) (text : List ℕ) → Prints hash (RunsSolo hash) run text → PrintsLegal hash run text
   prints-legal run text prints = record {
     history = prints.history;
     printed = prints.printed;
     sound = prints.given.sound;
+    fixed = prints.fixed;
     only = λ other legal order. ordered_is_solo hash run.opening run.scripts other legal order ∙ sym prints.given.is_solo;
   }
 
-  same-end : (goes : Result Run Status) (e : Ending) → IsEndOf (Prints (RunsSolo hash)) goes e → e ≡ ended hash goes
+  same-end : (goes : Result Run Status) (e : Ending) → IsEndOf (Prints hash (RunsSolo hash)) goes e → e ≡ ended hash goes
   same-end (Err s) e is = is
   same-end (Ok run) e is = λ i. record {
     status = is.0 i;
     text = (is.1.printed ∙ ap (λ h. journal h (calls_in run.scripts)) is.1.given.is_solo) i;
   }
 
-  solo-ends : (goes : Result Run Status) (s : Status) (before now : Option (List ℕ)) → EndsTo (Prints (RunsSolo hash)) goes s before now → Ends (ended hash goes) s before now
+  solo-ends : (goes : Result Run Status) (s : Status) (before now : Option (List ℕ)) → EndsTo (Prints hash (RunsSolo hash)) goes s before now → Ends (ended hash goes) s before now
   solo-ends goes status.NoMemory before now ends = ends
   solo-ends goes status.Done before now ends = subst (λ (e : Ending). Ends e status.Done before now) (same-end goes ends.0 ends.1) ends.2
   solo-ends goes status.NotSealed before now ends = subst (λ (e : Ending). Ends e status.NotSealed before now) (same-end goes ends.0 ends.1) ends.2
@@ -38,7 +40,7 @@ module _ (hash : Hash) where
   solo-ends goes (status.Limit which number) before now ends = subst (λ (e : Ending). Ends e (status.Limit which number) before now) (same-end goes ends.0 ends.1) ends.2
   solo-ends goes (status.TrustBad item number arg) before now ends = subst (λ (e : Ending). Ends e (status.TrustBad item number arg) before now) (same-end goes ends.0 ends.1) ends.2
 
-  solo-runs : (goes : Result Run Status) (before now : Option (List ℕ)) → RunsTo (Prints (RunsSolo hash)) goes before now → RunsTo (PrintsLegal hash) goes before now
+  solo-runs : (goes : Result Run Status) (before now : Option (List ℕ)) → RunsTo (Prints hash (RunsSolo hash)) goes before now → RunsTo (PrintsLegal hash) goes before now
   solo-runs goes before now runs = record {
     run = runs.run;
     is = runs.is;
@@ -47,27 +49,20 @@ module _ (hash : Hash) where
     prints = prints-legal runs.run runs.text runs.prints;
   }
 
-  pub solo-says : (s : Status) (before now : Option (List ℕ)) → SaysBy (Prints (RunsSolo hash)) s before now → SaysBy (PrintsLegal hash) s before now
-  solo-says status.Done before now says =
-      (says.0, says.1, record { run = says.2.run; of_some = says.2.of_some; prints = prints-legal says.2.run says.0 says.2.prints })
-  solo-says status.NotSealed before now says = says
-  solo-says status.Usage before now says = says
-  solo-says (status.SceneBad line kind) before now says = says
-  solo-says (status.FileFault item) before now says = says
-  solo-says status.SinkFault before now says = says
-  solo-says (status.Limit which number) before now says = says
-  solo-says (status.TrustBad item number arg) before now says = says
-  solo-says status.NoMemory before now says = says
+  pub solo-some : (s : Status) (before now : Option (List ℕ)) → OverSome (Finishes (Prints hash (RunsSolo hash)) s before now) → OverSome (FinishesSolo hash s before now)
+  solo-some s before now some =
+      map-some (Finishes (Prints hash (RunsSolo hash)) s before now) (FinishesSolo hash s before now)
+      (λ goes is. record { ends = solo-ends goes s before now is.ends; done = λ done. solo-runs goes before now (is.done done) }) some
 
   -- ---- of words that name this path
 
   pub solo-output : (told : Told) (named : Option (List ℕ)) (path : List ℕ) (s : Status) (before now : Option (List ℕ)) → named ≡ Some path
-      → EndsTo (Prints (RunsSolo hash)) (run_path told path) s before now → Ends (ended hash (run_by told named)) s before now
+      → EndsTo (Prints hash (RunsSolo hash)) (run_path told path) s before now → Ends (ended hash (run_by told named)) s before now
   solo-output told named path s before now is ends =
       subst (λ (p : Option (List ℕ)). Ends (ended hash (run_by told p)) s before now) (sym is) (solo-ends (run_path told path) s before now ends)
 
   pub solo-legal : (told : Told) (named : Option (List ℕ)) (path : List ℕ) (before now : Option (List ℕ)) → named ≡ Some path
-      → RunsTo (Prints (RunsSolo hash)) (run_path told path) before now → RunsTo (PrintsLegal hash) (run_by told named) before now
+      → RunsTo (Prints hash (RunsSolo hash)) (run_path told path) before now → RunsTo (PrintsLegal hash) (run_by told named) before now
   solo-legal told named path before now is runs =
       subst (λ (p : Option (List ℕ)). RunsTo (PrintsLegal hash) (run_by told p) before now) (sym is) (solo-runs (run_path told path) before now runs)
 

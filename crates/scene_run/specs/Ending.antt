@@ -75,10 +75,13 @@ abbrev pub run_items : List Item → List (List Call) → Result Run Status
 run_items items scripts =
     unless_ends (items_end 1 items) (Ok (record { opening = opening_of items; scripts = scripts }))
 
--- what was found of a scene's file says how the run goes on, where this is told behind its read
+-- what was found of a scene's file, and of the files that its items name, says how the run goes
+abbrev pub run_over : Option (List ℕ) → List Item → Result Run Status
+run_over found items = unless_ends (scene_end found) (run_items items (scripts_in (lines_found found)))
+
+-- the same of a scene's file, where this is told behind its read
 abbrev pub run_found : Told → Option (List ℕ) → Result Run Status
-run_found told found =
-    unless_ends (scene_end found) (run_items (items_told told (heads_in (lines_found found))) (scripts_in (lines_found found)))
+run_found told found = run_over found (items_told told (heads_in (lines_found found)))
 
 -- the scene in the file of this path
 abbrev pub run_path : Told → List ℕ → Result Run Status
@@ -132,18 +135,25 @@ Ends ending other before now = (other ≡ ending.status) × (now ≡ append_know
 
 -- ---- what a run that is done has printed
 
--- The text is the journal of a history of the run's scripts from its opening, of which this is true.
-pub record Prints (gives : Opening → List (List Call) → List Line → Type 0) (run : Run) (text : List ℕ) : Type 0 where
+-- of all legal histories of the run's scripts from its opening, this one alone has this journal
+abbrev pub FixesHistory : Hash → Run → List ℕ → List Line → Type 0
+FixesHistory hash run text history =
+    (other : List Line) → Legal hash run.opening run.scripts other → text ≡ journal other (calls_in run.scripts) → other ≡ history
+
+-- The text is the journal of a history of the run's scripts from its opening, of which this is true. It fixes the history.
+pub record Prints (hash : Hash) (gives : Opening → List (List Call) → List Line → Type 0) (run : Run) (text : List ℕ) : Type 0 where
   pub history : List Line
   pub printed : text ≡ journal history (calls_in run.scripts)
   pub given : gives run.opening run.scripts history
+  pub fixed : FixesHistory hash run text history
 
--- The text is the journal of a legal history of the run's scripts from its opening, throughout which the sealing stands.
--- No other legal history has the entries of each script before those of the next.
+-- The text is the journal of a legal history of the run's scripts from its opening, throughout which the sealing stands. It
+-- fixes the history. No other legal history has the entries of each script before those of the next.
 pub record PrintsLegal (hash : Hash) (run : Run) (text : List ℕ) : Type 0 where
   pub history : List Line
   pub printed : text ≡ journal history (calls_in run.scripts)
   pub sound : IsSound hash run.opening run.scripts history
+  pub fixed : FixesHistory hash run text history
   pub only : (other : List Line) → Legal hash run.opening run.scripts other → InOrder other → other ≡ history
 
 -- no step ended the run, and what it has written is such a text of it
@@ -157,21 +167,17 @@ pub record RunsTo (IsText : Run → List ℕ → Type 0) (goes : Result Run Stat
 abbrev pub RunsLegal : Hash → Result Run Status → Option (List ℕ) → Option (List ℕ) → Type 0
 RunsLegal hash = RunsTo (PrintsLegal hash)
 
--- The run is that of a scene and its items for some bytes of their files, of which none ends it early.
-pub record IsOfSome (run : Run) : Type 0 where
+-- ---- the run over some bytes of its files, whatever they tell
+
+-- The scene's file, and each file that its header lines name, could not be read or has some bytes, and this is true of how
+-- the run goes over these.
+pub record OverSome (Is : Result Run Status → Type 0) : Type 0 where
   -- what was found of the scene's file
   pub found : Option (List ℕ)
   -- the header lines, each with what was found of the file that it names
   pub items : List Item
-  pub passes : scene_end found ≡ None
   pub lines : heads_of items ≡ heads_in (lines_found found)
-  pub goes : run_items items (scripts_in (lines_found found)) ≡ Ok run
-
--- it is such a text of a run over some bytes, whatever the files tell
-pub record PrintsSome (IsText : Run → List ℕ → Type 0) (text : List ℕ) : Type 0 where
-  pub run : Run
-  pub of_some : IsOfSome run
-  pub prints : IsText run text
+  pub is : Is (run_over found items)
 
 -- ---- how far a run goes before its scripts
 
@@ -201,9 +207,9 @@ EarlyIsCaused before now (status.TrustBad item number arg) = now ≡ before
 EarlyIsCaused before now status.NoMemory = now ≡ before
 EarlyIsCaused before now other = ⊥
 
--- the same of what a scene and its items were found to open to, which is a run over some bytes
+-- the same of what a scene and its items were found to open to
 abbrev pub StartIsCaused : ℕ → ℕ → Result (Scene × OpenScene) Status → Type 0
-StartIsCaused before now (Ok both) = (now ≡ before) × IsOfSome (run_with both.0 both.1)
+StartIsCaused before now (Ok both) = now ≡ before
 StartIsCaused before now (Err s) = EarlyIsCaused before now s
 
 -- ---- the text of a run
@@ -219,10 +225,10 @@ abbrev pub Answers : (Run → List ℕ → Type 0) → Result Run Status → Res
 Answers IsText goes (Ok text) = GoesTo IsText goes text.items
 Answers IsText goes (Err s) = EndsAt goes s
 
--- the cause of what was answered: a text is that of a run over some bytes
-abbrev pub AnswerIsCaused : (Run → List ℕ → Type 0) → ℕ → ℕ → Result (Vec ℕ) Status → Type 0
-AnswerIsCaused IsText before now (Ok text) = (now ≡ before) × PrintsSome IsText text.items
-AnswerIsCaused IsText before now (Err s) = EarlyIsCaused before now s
+-- the cause of what was answered
+abbrev pub AnswerIsCaused : ℕ → ℕ → Result (Vec ℕ) Status → Type 0
+AnswerIsCaused before now (Ok text) = now ≡ before
+AnswerIsCaused before now (Err s) = EarlyIsCaused before now s
 
 -- the run ends early by its one line, or is done with such a text of it
 abbrev pub IsEndOf : (Run → List ℕ → Type 0) → Result Run Status → Ending → Type 0
@@ -234,6 +240,16 @@ IsEndOf IsText (Ok run) ending = (ending.status ≡ status.Done) × IsText run e
 abbrev pub EndsTo : (Run → List ℕ → Type 0) → Result Run Status → Status → Option (List ℕ) → Option (List ℕ) → Type 0
 EndsTo IsText goes status.NoMemory before now = now ≡ before
 EndsTo IsText goes other before now = (ending : Ending) × IsEndOf IsText goes ending × Ends ending other before now
+
+-- The run has the status and the text of such an end, and where it is done, it goes on so.
+pub record Finishes (IsText : Run → List ℕ → Type 0) (s : Status) (before now : Option (List ℕ)) (goes : Result Run Status) : Type 0 where
+  pub ends : EndsTo IsText goes s before now
+  pub done : s ≡ status.Done → RunsTo IsText goes before now
+
+-- the same of the scripts one after another, whose text is fixed
+pub record FinishesSolo (hash : Hash) (s : Status) (before now : Option (List ℕ)) (goes : Result Run Status) : Type 0 where
+  pub ends : Ends (ended hash goes) s before now
+  pub done : s ≡ status.Done → RunsLegal hash goes before now
 
 -- ---- what goes out
 
@@ -257,16 +273,6 @@ abbrev pub EndsBy : Result (Vec ℕ) Status → Status → Option (List ℕ) →
 EndsBy (Ok text) s before now = GoesOut (record { status = status.Done; text = text.items }) s before now
 EndsBy (Err status.NoMemory) s before now = (s ≡ status.NoMemory) × (now ≡ before)
 EndsBy (Err kind) s before now = GoesOut (early_end kind) s before now
-
--- where a run ends early, its one line went out; where it is done, such a text of some run did
-abbrev pub SaysBy : (Run → List ℕ → Type 0) → Status → Option (List ℕ) → Option (List ℕ) → Type 0
-SaysBy IsText status.Done before now = (text : List ℕ) × (now ≡ append_known before text) × PrintsSome IsText text
-SaysBy IsText status.SinkFault before now = Unit {0}
-SaysBy IsText status.NoMemory before now = now ≡ before
-SaysBy IsText other before now = now ≡ append_known before (early_line other)
-
-abbrev pub Says : Hash → Status → Option (List ℕ) → Option (List ℕ) → Type 0
-Says hash = SaysBy (PrintsLegal hash)
 
 -- The count of the files' faults rises where the run ends with a file that could not be read, and else stays; a fault of
 -- the sink may come in the place of that end.

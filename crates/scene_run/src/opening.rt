@@ -7,7 +7,7 @@ ghost use Rattle.scene_open.specs.Fits.{IsOpeningFor};
 ghost use Rattle.scene_open.specs.Items.{ReadsWithin};
 ghost use Rattle.scene_open.specs.Limits.{IsWithin};
 ghost use Rattle.scene_open.specs.Opening.{opening_with};
-ghost use Rattle.scene_run.specs.Ending.{run_path, most_reads, GoesOn, StartIsCaused};
+ghost use Rattle.scene_run.specs.Ending.{run_path, most_reads, OverSome, GoesOn, StartIsCaused};
 
 use pg_bytes::Status;
 use pg_io::Files;
@@ -18,7 +18,8 @@ use std::alloc::Global;
 /// Reads the scene in the file of this path, opens its items, and gives both. The error is the status of the first step that
 /// ends the run: FileFault with the item's number for a file that cannot be read, 0 for the scene; SceneBad for a bad line;
 /// Limit for the first limit that is passed; TrustBad for a static trust cache that breaks its format; and NoMemory for want
-/// of memory. The scene's file, and each file that a header line names, is read at most once.
+/// of memory. The scene's file, and each file that a header line names, is read at most once. Where the files do not tell, the
+/// answer is that over some bytes of these files.
 pub fn open_path<F: Files>(
     alloc: Global,
     path: &str,
@@ -26,6 +27,7 @@ pub fn open_path<F: Files>(
 ) -> Result<(Scene, OpenScene), Status>
     ensures told { (told : Told) → F.tells files.old ≡ Some told →
         GoesOn (run_path told path.now) result }
+    ensures some { OverSome (λ goes. GoesOn goes result) }
     ensures cause { StartIsCaused (F.faults files.old) (F.faults files.new) result }
     ensures reads { (told : Told) → F.tells files.old ≡ Some told →
         ReadsWithin told (most_reads (next_read told path.now)) (F.tells files.new) }

@@ -5,7 +5,7 @@ ghost use Rattle.pg_bytes.specs.Counts.{Rose};
 ghost use Rattle.pg_digest.specs.Digests.{sha_hash};
 ghost use Rattle.pg_io.specs.Files.{Told, next_read};
 ghost use Rattle.scene_open.specs.Items.{ReadsWithin};
-ghost use Rattle.scene_run.specs.Ending.{AreSolo, path_of, run_path, run_of, ending_of, most_reads, reads_by, Prints, Answers, AnswerIsCaused, Ends, CountsFaults, Says, RunsLegal};
+ghost use Rattle.scene_run.specs.Ending.{AreSolo, path_of, run_path, run_of, ending_of, most_reads, reads_by, Prints, OverSome, Answers, AnswerIsCaused, Ends, FinishesSolo, CountsFaults, RunsLegal};
 ghost use Rattle.scene_run.specs.Runs.{RunsSolo};
 
 use crate::ending::{journal_of, write_end};
@@ -29,9 +29,9 @@ fn path_behind<'a>(words: &'a [String]) -> &'a str
 // The journal of the scene in the file of this path, its scripts one after another, or the status of the run's early end.
 fn solo_journal<F: Files>(alloc: Global, path: &str, files: &mut F) -> Result<Vec<u8>, Status>
     ensures told { (told : Told) → F.tells files.old ≡ Some told →
-        Answers (Prints (RunsSolo sha_hash)) (run_path told path.now) result }
-    ensures cause { AnswerIsCaused (Prints (RunsSolo sha_hash))
-        (F.faults files.old) (F.faults files.new) result }
+        Answers (Prints sha_hash (RunsSolo sha_hash)) (run_path told path.now) result }
+    ensures some { OverSome (λ goes. Answers (Prints sha_hash (RunsSolo sha_hash)) goes result) }
+    ensures cause { AnswerIsCaused (F.faults files.old) (F.faults files.new) result }
     ensures reads { (told : Told) → F.tells files.old ≡ Some told →
         ReadsWithin told (most_reads (next_read told path.now)) (F.tells files.new) }
 {
@@ -71,14 +71,15 @@ pub fn csrun_solo<F: Files, K: Sink>(
         (K.written out.old) (K.written out.new) }
 
     // A run that is done has printed the journal of a legal history of the scene's scripts, throughout which the sealing
-    // stands, and whose denials state the first broken rule.
+    // stands, and whose denials state the first broken rule. No other legal history of them has this journal.
     ensures legal { (told : Told) → F.tells files.old ≡ Some told → result ≡ Status.Done →
         RunsLegal sha_hash (run_of (map string_bytes words.now) told)
         (K.written out.old) (K.written out.new) }
 
-    // The same of a run over some bytes of the scene and of the files that it names, whatever the files tell; each early end
-    // has its one line.
-    ensures says { Says sha_hash result (K.written out.old) (K.written out.new) }
+    // Whatever the files tell, status and output are those of a run over some bytes of the scene's file and of the files
+    // that it names, each of which could not be read or has these bytes.
+    ensures over_some { OverSome (FinishesSolo sha_hash result
+        (K.written out.old) (K.written out.new)) }
 
     // Two statuses never come.
     ensures no_usage { result ≢ Status.Usage }

@@ -2,5 +2,4 @@ pub mod EachFacts
 pub mod HistoryFacts
 pub mod MadeFacts
 pub mod NeedFacts
-pub mod SoundFacts
 pub mod WordFacts

@@ -1,5 +1,5 @@
 -- How a run of a made scene ends.
-use Rattle.std.proofs.Common.{◌≡◌, ℕ, ◌≤◌, List, Option, Result, Ok, Err, inl, inr, refl, sym, ap, subst, ◌∙◌, arith}
+use Rattle.std.proofs.Common.{◌≡◌, ℕ, List, Option, Some, None, Result, Ok, Err, inl, inr, refl, sym, subst, ◌∙◌, arith}
 use Rattle.std.specs.Prelude.{◌≢◌, IfOk, IfErr}
 use Rattle.std.specs.Global.{Vec}
 use Rattle.pg_bytes.specs.declared.status.Status.{Status}
@@ -13,8 +13,8 @@ use Rattle.pg_history.specs.Machine.{Line}
 use Rattle.pg_history.specs.Legal.{calls_in}
 use Rattle.scene_text.specs.declared.whole.Scene.{Scene}
 use Rattle.scene_open.specs.declared.open_scene.OpenScene.{OpenScene}
-use Rattle.scene_open.specs.Items.{items_told}
-use Rattle.scene_open.specs.Ends.{OpensTo}
+use Rattle.scene_open.specs.Items.{Item, items_told, items_end}
+use Rattle.scene_open.specs.Ends.{OpensTo, Opens}
 use Rattle.scene_open.specs.Opening.{opening_with}
 use Rattle.scene_made.specs.Made as made
 use Rattle.scene_run.specs.Runs.{IsSound}
@@ -51,6 +51,9 @@ made-same hash n m s before now same ends = subst (λ (k : ℕ). EndsMade hash k
 
 -- ---- what such a run prints
 
+no-end : (s : Status) → ◌≡◌ {A = Option Status} None (Some s) → ⊥
+no-end s e = absurd cc
+
 pub prints-made : (hash : Hash) (n : ℕ) (scene : Scene) (told : Told) (o : OpenScene) (history : List Line) (text : List ℕ)
     → scene ≡ made.scene hash n → told ≡ made.told hash n → OpensTo (items_told told scene.head) o
     → IsSound hash (opening_with scene.head o.files.items o.layouts.items o.trust) scene.scripts history
@@ -62,3 +65,15 @@ prints-made hash n scene told o history text is tells opens sound printed = reco
   printed = printed;
   sound = sound;
 }
+
+-- where no item ends the run early, only want of memory does
+pub only-memory : (items : List Item) (s : Status) → Opens items (Err s) → items_end 1 items ≡ None → s ≡ status.NoMemory
+only-memory items status.NoMemory ends none = refl
+only-memory items status.Done ends none = absurd (no-end status.Done (sym none ∙ ends))
+only-memory items status.NotSealed ends none = absurd (no-end status.NotSealed (sym none ∙ ends))
+only-memory items status.Usage ends none = absurd (no-end status.Usage (sym none ∙ ends))
+only-memory items (status.SceneBad line kind) ends none = absurd (no-end (status.SceneBad line kind) (sym none ∙ ends))
+only-memory items (status.FileFault item) ends none = absurd (no-end (status.FileFault item) (sym none ∙ ends))
+only-memory items status.SinkFault ends none = absurd (no-end status.SinkFault (sym none ∙ ends))
+only-memory items (status.Limit which number) ends none = absurd (no-end (status.Limit which number) (sym none ∙ ends))
+only-memory items (status.TrustBad item number arg) ends none = absurd (no-end (status.TrustBad item number arg) (sym none ∙ ends))

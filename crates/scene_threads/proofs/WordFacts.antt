@@ -6,8 +6,8 @@ use Rattle.pg_bytes.specs.declared.status.Status.{Status}
 use Rattle.pg_bytes.specs.declared.status.Status.TheVariants as status
 use Rattle.pg_io.specs.Files.{Told}
 use Rattle.scene_open.specs.Items.{ReadsWithin}
-use Rattle.scene_run.specs.Ending.{Run, AreSolo, path_of, run_path, run_by, reads_by, early_end, Ends, EndsTo, EndsBy, RunsTo, SaysBy, CountsFaults}
-use Rattle.scene_threads.specs.Words.{ArePath, made_of, made_number, EndsByWords}
+use Rattle.scene_run.specs.Ending.{Run, AreSolo, path_of, run_path, run_by, reads_by, early_end, Ends, EndsTo, EndsBy, RunsTo, CountsFaults}
+use Rattle.scene_threads.specs.Words.{ArePath, made_number, EndsByWords}
 
 -- ---- the paths that words name
 
@@ -100,18 +100,11 @@ module _ (s : Status) (before now : Option (List ℕ)) where
   neither kind (inl out) is usage fault = usage (sym is ∙ out.0)
   neither kind (inr out) is usage fault = fault (sym is ∙ out.0)
 
-  pub usage-not-done : IsUsage s before now → s ≡ status.Done → ⊥
-  usage-not-done out is = neither status.Done out is (λ e. cc) (λ e. cc)
-
   pub usage-no-verdict : IsUsage s before now → s ≢ status.NotSealed
   usage-no-verdict out is = neither status.NotSealed out is (λ e. cc) (λ e. cc)
 
   pub usage-no-memory : IsUsage s before now → s ≡ status.NoMemory → now ≡ before
   usage-no-memory out is = absurd (neither status.NoMemory out is (λ e. cc) (λ e. cc))
-
-  pub usage-says : (IsText : Run → List ℕ → Type 0) → IsUsage s before now → SaysBy IsText s before now
-  usage-says IsText (inl out) = subst (λ (x : Status). SaysBy IsText x before now) (sym out.0) out.1
-  usage-says IsText (inr out) = subst (λ (x : Status). SaysBy IsText x before now) (sym out.0) tt
 
   pub usage-faults : (count : ℕ) → IsUsage s before now → CountsFaults s count count
   usage-faults count (inl out) = subst (λ (x : Status). CountsFaults x count count) (sym out.0) refl

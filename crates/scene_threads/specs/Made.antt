@@ -1,5 +1,5 @@
 -- What a run of a made scene prints, and how it ends.
-use Rattle.std.specs.Prelude.{ℕ, ◌≡◌, List, Option, Ok}
+use Rattle.std.specs.Prelude.{ℕ, ◌≡◌, List, Option, None, Ok}
 use Rattle.std.specs.Io.KnownBytes.{append_known}
 use Rattle.pg_bytes.specs.declared.status.Status.{Status}
 use Rattle.pg_bytes.specs.declared.status.Status.TheVariants as status
@@ -8,7 +8,7 @@ use Rattle.pg_io.specs.Sink.{SentPart}
 use Rattle.pg_report.specs.Journal.{summary}
 use Rattle.pg_history.specs.Machine.{Line}
 use Rattle.pg_history.specs.Legal.{calls_in}
-use Rattle.scene_open.specs.Items.{Item, items_told}
+use Rattle.scene_open.specs.Items.{Item, items_told, items_end}
 use Rattle.scene_run.specs.Ending.{Run, run_items}
 use Rattle.scene_run.specs.Runs.{IsSound}
 use Rattle.scene_made.specs.Made as made
@@ -17,8 +17,12 @@ use Rattle.scene_made.specs.Made as made
 abbrev pub made_items : Hash → ℕ → List Item
 made_items hash n = items_told (made.told hash n) (made.heads hash n)
 
+-- no item of that scene ends its run early
+abbrev pub OpensMade : Hash → ℕ → Type 0
+OpensMade hash n = items_end 1 (made_items hash n) ≡ None
+
 -- The text is the summary of a legal history of the scripts of the scene that is made of a number, from the opening of its
--- items, of which none ends the run early. Throughout the history the sealing stands, and each denial states the first rule
+-- items. Throughout the history the sealing stands, and each denial states the first rule
 -- that was broken.
 pub record PrintsMade (hash : Hash) (n : ℕ) (text : List ℕ) : Type 0 where
   pub run : Run

@@ -15,4 +15,6 @@ pub use std::alloc::AllocError as NoMemory;
 pub use top::csrun_main;
 
 #[cfg(test)]
+mod gates;
+#[cfg(test)]
 mod tests;

@@ -15,6 +15,14 @@ use std::alloc::Global;
 use std::sync::Wait;
 use std::thread::Threads;
 
+// Want of memory, the one status with which the items of a made scene are not opened.
+fn memory(status: Status) -> NoMemory
+    requires { status ≡ Status.NoMemory }
+{
+    let _ = status;
+    NoMemory
+}
+
 // The summary of a run of the scene that is made of this number, its scripts side by side.
 fn summed<R: Threads + Wait + Sync, G: Gate + Sync>(
     rt: &R,
@@ -27,9 +35,9 @@ fn summed<R: Threads + Wait + Sync, G: Gate + Sync>(
     ensures { IfOk result (λ text. PrintsMade sha_hash n text.items) }
 {
     let (scene, mut files) = made(alloc, n)?;
-    // An item that ended the run early would be answered as want of memory: tests show that none does.
-    let Ok(opened) = open_items(alloc, &scene, &mut files) else {
-        return Err(NoMemory);
+    let opened = match open_items(alloc, &scene, &mut files) {
+        Ok(opened) => opened,
+        Err(status) => return Err(memory(status)),
     };
     let history = run_shared(
         rt,

@@ -41,7 +41,7 @@ fn run_parts<R: Threads + Wait + Sync, G: Gate + Sync>(
     match Ready::open(alloc, opened) {
         Ok((ready, passes)) => run_opened(rt, alloc, scene.scripts.items(), ready, passes, gate),
         Err(OpenFail::Found { back, .. }) => run_alone(alloc, scene, back),
-        Err(OpenFail::NoMemory) => Err(NoMemory),
+        Err(OpenFail::NoMemory { .. }) => Err(NoMemory),
     }
 }
 

@@ -24,7 +24,7 @@ fn three_pages(alloc: Global) -> Result<Vec<u8>, Fail> {
 }
 
 /// Runs the scene by these words, where its path is `s` and `A` is the file of three pages.
-fn run_words<R: Threads + Wait + Sync + AllocGlobal, G: Gate + Sync>(
+pub(crate) fn run_words<R: Threads + Wait + Sync + AllocGlobal, G: Gate + Sync>(
     rt: &R,
     words: &[&str],
     scene: &str,
@@ -61,6 +61,7 @@ spawn p0
 map p0 0x10000 f0 0 3 r-x private
 attach f0 0
 fault p0 0x10000 x
+debug p0
 script
 spawn p1
 map p1 0x10000 f1 0 3 r-x private
@@ -68,11 +69,13 @@ attach f1 0
 fault p1 0x10000 x
 ";
 
-/// The number of the fault in each of both scripts.
-const FAULT: u32 = 3;
+/// The number of the fault in each script, and of the call behind it in that of worker 0.
+pub(crate) const FAULT: u32 = 3;
+
+const BEHIND: u32 = 4;
 
 /// Holds worker 0 inside its fault until that of worker 1 was answered, and worker 1 inside its own until worker 0 is
-/// inside.
+/// inside. Worker 1 then waits until the call behind that fault of worker 0 was answered.
 #[derive(Drop)]
 struct Crossing<'a, R> {
     rt: &'a R,
@@ -81,6 +84,8 @@ struct Crossing<'a, R> {
     second_was_answered: AtomicBool,
     first_saw_answer: AtomicBool,
     second_saw_first: AtomicBool,
+    first_went_on: AtomicBool,
+    second_saw_more: AtomicBool,
 }
 
 impl<R: Clock> Crossing<'_, R> {
@@ -100,21 +105,23 @@ impl<R: Clock> Crossing<'_, R> {
 
 impl<R: Clock> Gate for Crossing<'_, R> {
     fn pass(&self, worker: u32, call: u32, moment: Moment) {
-        if call != FAULT {
-            return;
-        }
-        match (worker, moment) {
-            (0, Moment::Inside) => {
+        match (worker, call, moment) {
+            (0, FAULT, Moment::Inside) => {
                 self.first_is_inside.store(true, Ordering::SeqCst);
                 let saw = self.hold_until(&self.second_was_answered);
                 self.first_saw_answer.store(saw, Ordering::SeqCst);
             }
-            (1, Moment::Inside) => {
+            (1, FAULT, Moment::Inside) => {
                 self.second_is_inside.store(true, Ordering::SeqCst);
                 let saw = self.hold_until(&self.first_is_inside);
                 self.second_saw_first.store(saw, Ordering::SeqCst);
             }
-            (1, Moment::Answered) => self.second_was_answered.store(true, Ordering::SeqCst),
+            (1, FAULT, Moment::Answered) => {
+                self.second_was_answered.store(true, Ordering::SeqCst);
+                let saw = self.hold_until(&self.first_went_on);
+                self.second_saw_more.store(saw, Ordering::SeqCst);
+            }
+            (0, BEHIND, Moment::Answered) => self.first_went_on.store(true, Ordering::SeqCst),
             _ => {}
         }
     }
@@ -129,6 +136,8 @@ fn faults_on_two_files_at_once(rt: HostRuntime) -> Result<(), Fail> {
         second_was_answered: AtomicBool::new(false),
         first_saw_answer: AtomicBool::new(false),
         second_saw_first: AtomicBool::new(false),
+        first_went_on: AtomicBool::new(false),
+        second_saw_more: AtomicBool::new(false),
     };
     let (status, text) = run_words(&rt, &["s"], TWO_FILES, &gate)?;
     assert_eq!(rt; status, Status::Done);
@@ -136,7 +145,11 @@ fn faults_on_two_files_at_once(rt: HostRuntime) -> Result<(), Fail> {
     assert!(rt; gate.second_is_inside.load(Ordering::SeqCst));
     assert!(rt; gate.second_saw_first.load(Ordering::SeqCst));
     assert!(rt; gate.first_saw_answer.load(Ordering::SeqCst));
-    assert!(rt; text.ends_with("calls 8\ngiven 2\ndenied 0\n"));
+    assert!(rt; gate.second_saw_more.load(Ordering::SeqCst));
+    // What was answered stands in the history before what was held.
+    let (before, _) = text.split_once(" f0 enter ").unwrap_or(("", ""));
+    assert!(rt; before.contains(" f1 enter 4096 0 x "), "{text}");
+    assert!(rt; text.ends_with("calls 9\ngiven 2\ndenied 0\n"));
     Ok(())
 }
 

@@ -5,10 +5,10 @@ ghost use Rattle.pg_bytes.specs.Counts.{Rose};
 ghost use Rattle.pg_digest.specs.Digests.{sha_hash};
 ghost use Rattle.pg_io.specs.Files.{Told, next_read};
 ghost use Rattle.scene_open.specs.Items.{ReadsWithin};
-ghost use Rattle.scene_run.specs.Ending.{AreSolo, path_of, run_path, run_of, ending_of, most_reads, reads_by, Answers, AnswerIsCaused, Ends, EndsTo, RunsTo, SaysBy, CountsFaults};
+ghost use Rattle.scene_run.specs.Ending.{AreSolo, path_of, run_path, run_of, ending_of, most_reads, reads_by, OverSome, Answers, AnswerIsCaused, Ends, EndsTo, RunsTo, RunsLegal, Finishes, FinishesSolo, CountsFaults};
 ghost use Rattle.scene_threads.specs.Sound.{PrintsSound};
 ghost use Rattle.scene_threads.specs.Words.{ArePath, made_number, EndsByWords};
-ghost use Rattle.scene_threads.specs.Made.{EndsMade};
+ghost use Rattle.scene_threads.specs.Made.{OpensMade, EndsMade};
 
 use crate::making::made_summary;
 use crate::shared::run_shared;
@@ -30,8 +30,8 @@ fn shared_journal<R: Threads + Wait + Sync, F: Files, G: Gate + Sync>(
 ) -> Result<Vec<u8>, Status>
     ensures told { (told : Told) → F.tells files.old ≡ Some told →
         Answers (PrintsSound sha_hash) (run_path told path.now) result }
-    ensures cause { AnswerIsCaused (PrintsSound sha_hash)
-        (F.faults files.old) (F.faults files.new) result }
+    ensures some { OverSome (λ goes. Answers (PrintsSound sha_hash) goes result) }
+    ensures cause { AnswerIsCaused (F.faults files.old) (F.faults files.new) result }
     ensures reads { (told : Told) → F.tells files.old ≡ Some told →
         ReadsWithin told (most_reads (next_read told path.now)) (F.tells files.new) }
 {
@@ -79,7 +79,7 @@ pub fn csrun_main<R: Threads + Wait + Sync, F: Files, K: Sink, G: Gate + Sync>(
 ) -> Status
     // A path alone and the files' bytes fix how the run ends: early by its line, or with the journal of a legal history of
     // the scene's scripts from its opening, throughout which the sealing stands, and whose denials state the first broken
-    // rule.
+    // rule. No other legal history of the scripts has this journal.
     ensures output { ArePath (map string_bytes words.now) →
         (told : Told) → F.tells files.old ≡ Some told →
         EndsTo (PrintsSound sha_hash) (run_of (map string_bytes words.now) told) result
@@ -91,20 +91,31 @@ pub fn csrun_main<R: Threads + Wait + Sync, F: Files, K: Sink, G: Gate + Sync>(
         Ends (ending_of sha_hash (map string_bytes words.now) told) result
         (K.written out.old) (K.written out.new) }
 
-    // Behind `gen` a run that is done has printed the summary of such a history of the scene that is made of the number.
+    // Behind `gen` a run that is done has printed the summary of such a history of the scene that is made of the number. No
+    // item of that scene ends the run early.
     ensures made { (n : ℕ) → made_number (map string_bytes words.now) ≡ Some n →
-        EndsMade sha_hash n result (K.written out.old) (K.written out.new) }
+        OpensMade sha_hash n
+        × EndsMade sha_hash n result (K.written out.old) (K.written out.new) }
 
-    // A run that is done over a path has printed the journal of such a history.
-    ensures legal { made_number (map string_bytes words.now) ≡ None →
+    // A run that is done has printed the journal of such a history: over a path, and behind `solo`, where it is the only one
+    // in which the scripts stand one after another.
+    ensures legal { ArePath (map string_bytes words.now) →
         (told : Told) → F.tells files.old ≡ Some told → result ≡ Status.Done →
         RunsTo (PrintsSound sha_hash) (run_of (map string_bytes words.now) told)
         (K.written out.old) (K.written out.new) }
+    ensures solo_legal { AreSolo (map string_bytes words.now) →
+        (told : Told) → F.tells files.old ≡ Some told → result ≡ Status.Done →
+        RunsLegal sha_hash (run_of (map string_bytes words.now) told)
+        (K.written out.old) (K.written out.new) }
 
-    // The same of a run over some bytes of the scene and of the files that it names, whatever the files tell; each early end
-    // has its one line.
-    ensures says { made_number (map string_bytes words.now) ≡ None →
-        SaysBy (PrintsSound sha_hash) result (K.written out.old) (K.written out.new) }
+    // Whatever the files tell, status and output are those of a run over some bytes of the scene's file and of the files
+    // that it names, each of which could not be read or has these bytes.
+    ensures over_some { ArePath (map string_bytes words.now) →
+        OverSome (Finishes (PrintsSound sha_hash) result
+        (K.written out.old) (K.written out.new)) }
+    ensures solo_some { AreSolo (map string_bytes words.now) →
+        OverSome (FinishesSolo sha_hash result
+        (K.written out.old) (K.written out.new)) }
 
     // Usage comes exactly where the words name neither a path nor a number from 1 to 1,000 behind `gen`.
     ensures usage { EndsByWords (path_of (map string_bytes words.now))

@@ -1,7 +1,7 @@
 use Rattle.std.proofs.Common.{◌∙◌, subst}
 use Rattle.pg_io.specs.Files.{next_read, after_read}
 use Rattle.scene_run.specs.Ending.{EarlyIsCaused}
-use Rattle.scene_run.proofs.EndingFacts.{scene-ends, items-ends, goes-from, of-some}
+use Rattle.scene_run.proofs.EndingFacts.{scene-ends, items-ends, goes-from, scene-some, items-some, opened-some}
 use Rattle.scene_run.proofs.CauseFacts.{scene-caused, items-caused, all-reads}
 use Rattle.scene_run.proofs.opening.open_path.Goals as goal
 
@@ -37,9 +37,16 @@ returns-clause-told g c = λ told tells.
     goes-from (after_read told) (next_read told c.args.path.now) c.in-Ok.scene c.in-Ok-open_items.opened (c.in-Ok.ensures.told told tells)
     (c.in-Ok-open_items.ensures.told (after_read told) (c.in-Ok.ensures.read told tells))
 
+pub returns-in-Err-clause-some : goal.returns-in-Err-clause-some
+returns-in-Err-clause-some g c = scene-some c.in-Err.status c.in-Err.ensures.some
+
+pub returns-in-Err-open_items-clause-some : goal.returns-in-Err-open_items-clause-some
+returns-in-Err-open_items-clause-some g c =
+    items-some c.in-Ok.ensures.some.0 c.in-Ok.scene c.in-Err-open_items.status c.in-Ok.ensures.some.1 c.in-Err-open_items.ensures.some
+
+pub returns-clause-some : goal.returns-clause-some
+returns-clause-some g c =
+    opened-some c.in-Ok.ensures.some.0 c.in-Ok.scene c.in-Ok-open_items.opened c.in-Ok.ensures.some.1 c.in-Ok-open_items.ensures.some
+
 pub returns-clause-cause : goal.returns-clause-cause
-returns-clause-cause g c = (
-  c.in-Ok-open_items.ensures.cause ∙ c.in-Ok.ensures.cause,
-  of-some c.in-Ok.ensures.some.0 c.in-Ok.scene c.in-Ok-open_items.ensures.some.items c.in-Ok-open_items.opened
-      c.in-Ok.ensures.some.1 c.in-Ok-open_items.ensures.some.lines c.in-Ok-open_items.ensures.some.opens,
-)
+returns-clause-cause g c = c.in-Ok-open_items.ensures.cause ∙ c.in-Ok.ensures.cause

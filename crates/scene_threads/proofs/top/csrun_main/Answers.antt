@@ -1,17 +1,17 @@
 use Rattle.pg_digest.specs.Digests.{sha_hash}
-use Rattle.scene_run.proofs.AnswerFacts.{ends-to, runs-to, is-ended, early-answer}
+use Rattle.scene_run.proofs.AnswerFacts.{ends-to, runs-to, finishes-some, is-ended, early-answer}
 use Rattle.scene_run.proofs.SoloEndFacts.{path-reads}
+use Rattle.scene_made.proofs.OpenFacts.{passes}
 use Rattle.scene_threads.specs.Sound.{PrintsSound}
 use Rattle.scene_threads.proofs.MadeFacts.{made-ended, made-early, made-same}
-use Rattle.scene_threads.proofs.SoundFacts.{runs-sound, says-sound}
-use Rattle.scene_threads.proofs.WordFacts.{path-named, solo-named, path-not-solo, named-some, solo-not-path, none-not-path, none-not-solo, path-output, path-legal, path-usage, usage-not-done, usage-no-verdict, usage-no-memory, usage-says, usage-faults, usage-by-words, none-reads, path-unmade, solo-unmade, number-some, number-same, made-unnamed, made-usage}
+use Rattle.scene_threads.proofs.WordFacts.{path-named, solo-named, path-not-solo, named-some, solo-not-path, none-not-path, none-not-solo, path-output, path-legal, path-usage, usage-no-verdict, usage-no-memory, usage-faults, usage-by-words, none-reads, path-unmade, solo-unmade, number-some, number-same}
 use Rattle.scene_threads.proofs.top.csrun_main.Goals as goal
 
 -- ---- the path of a scene
 
 pub write_end-requires : goal.write_end-requires
 write_end-requires g c =
-    record { early = early-answer (PrintsSound sha_hash) _ _ c.shared_journal-answer.result c.shared_journal-answer.ensures.cause }
+    record { early = early-answer _ _ c.shared_journal-answer.result c.shared_journal-answer.ensures.cause }
 
 pub returns-in-Scene-clause-output : goal.returns-in-Scene-clause-output
 returns-in-Scene-clause-output g c =
@@ -27,23 +27,31 @@ returns-in-Scene-clause-made g c =
 
 pub returns-in-Scene-clause-legal : goal.returns-in-Scene-clause-legal
 returns-in-Scene-clause-legal g c =
-    λ unmade told tells done. path-legal (PrintsSound sha_hash) told _ _ (path-named _ _ c.in-Scene.ensures) _ _ (runs-to (PrintsSound sha_hash) _ _ _ c.shared_journal-answer.result _ _ c.write_end.result (c.shared_journal-answer.ensures.told told tells) c.shared_journal-answer.ensures.cause c.write_end.ensures.ends done)
+    λ path told tells done. path-legal (PrintsSound sha_hash) told _ _ (path-named _ _ c.in-Scene.ensures) _ _ (runs-to (PrintsSound sha_hash) _ _ _ c.shared_journal-answer.result _ _ c.write_end.result (c.shared_journal-answer.ensures.told told tells) c.shared_journal-answer.ensures.cause c.write_end.ensures.ends done)
 
-pub returns-in-Scene-clause-says : goal.returns-in-Scene-clause-says
-returns-in-Scene-clause-says g c =
-    λ unmade. (is-ended (PrintsSound sha_hash) _ _ _ _ c.shared_journal-answer.result c.write_end.result c.shared_journal-answer.ensures.cause c.write_end.ensures.ends).says
+pub returns-in-Scene-clause-solo_legal : goal.returns-in-Scene-clause-solo_legal
+returns-in-Scene-clause-solo_legal g c =
+    λ solo. absurd (path-not-solo _ _ c.in-Scene.ensures solo)
+
+pub returns-in-Scene-clause-over_some : goal.returns-in-Scene-clause-over_some
+returns-in-Scene-clause-over_some g c =
+    λ path. finishes-some (PrintsSound sha_hash) _ _ c.shared_journal-answer.result _ _ c.write_end.result c.shared_journal-answer.ensures.some c.shared_journal-answer.ensures.cause c.write_end.ensures.ends
+
+pub returns-in-Scene-clause-solo_some : goal.returns-in-Scene-clause-solo_some
+returns-in-Scene-clause-solo_some g c =
+    λ solo. absurd (path-not-solo _ _ c.in-Scene.ensures solo)
 
 pub returns-in-Scene-clause-usage : goal.returns-in-Scene-clause-usage
 returns-in-Scene-clause-usage g c =
-    path-usage _ _ _ c.write_end.result _ _ (path-named _ _ c.in-Scene.ensures) (is-ended (PrintsSound sha_hash) _ _ _ _ c.shared_journal-answer.result c.write_end.result c.shared_journal-answer.ensures.cause c.write_end.ensures.ends).no_usage
+    path-usage _ _ _ c.write_end.result _ _ (path-named _ _ c.in-Scene.ensures) (is-ended _ _ _ _ c.shared_journal-answer.result c.write_end.result c.shared_journal-answer.ensures.cause c.write_end.ensures.ends).no_usage
 
 pub returns-in-Scene-clause-faults : goal.returns-in-Scene-clause-faults
 returns-in-Scene-clause-faults g c =
-    (is-ended (PrintsSound sha_hash) _ _ _ _ c.shared_journal-answer.result c.write_end.result c.shared_journal-answer.ensures.cause c.write_end.ensures.ends).faults
+    (is-ended _ _ _ _ c.shared_journal-answer.result c.write_end.result c.shared_journal-answer.ensures.cause c.write_end.ensures.ends).faults
 
 pub returns-in-Scene-clause-no_verdict : goal.returns-in-Scene-clause-no_verdict
 returns-in-Scene-clause-no_verdict g c =
-    (is-ended (PrintsSound sha_hash) _ _ _ _ c.shared_journal-answer.result c.write_end.result c.shared_journal-answer.ensures.cause c.write_end.ensures.ends).no_verdict
+    (is-ended _ _ _ _ c.shared_journal-answer.result c.write_end.result c.shared_journal-answer.ensures.cause c.write_end.ensures.ends).no_verdict
 
 pub returns-in-Scene-clause-reads : goal.returns-in-Scene-clause-reads
 returns-in-Scene-clause-reads g c =
@@ -55,7 +63,7 @@ returns-in-Scene-clause-quiet g c =
 
 pub returns-in-Scene-clause-no_memory : goal.returns-in-Scene-clause-no_memory
 returns-in-Scene-clause-no_memory g c =
-    (is-ended (PrintsSound sha_hash) _ _ _ _ c.shared_journal-answer.result c.write_end.result c.shared_journal-answer.ensures.cause c.write_end.ensures.ends).no_memory
+    (is-ended _ _ _ _ c.shared_journal-answer.result c.write_end.result c.shared_journal-answer.ensures.cause c.write_end.ensures.ends).no_memory
 
 -- ---- `solo` and a path
 
@@ -77,11 +85,19 @@ returns-in-Solo-clause-made g c =
 
 pub returns-in-Solo-clause-legal : goal.returns-in-Solo-clause-legal
 returns-in-Solo-clause-legal g c =
-    λ unmade told tells done. runs-sound sha_hash _ _ _ (c.csrun_solo.ensures.legal told tells done)
+    λ path. absurd (solo-not-path _ c.in-Solo.ensures path)
 
-pub returns-in-Solo-clause-says : goal.returns-in-Solo-clause-says
-returns-in-Solo-clause-says g c =
-    λ unmade. says-sound sha_hash c.csrun_solo.result _ _ c.csrun_solo.ensures.says
+pub returns-in-Solo-clause-solo_legal : goal.returns-in-Solo-clause-solo_legal
+returns-in-Solo-clause-solo_legal g c =
+    λ solo. c.csrun_solo.ensures.legal
+
+pub returns-in-Solo-clause-over_some : goal.returns-in-Solo-clause-over_some
+returns-in-Solo-clause-over_some g c =
+    λ path. absurd (solo-not-path _ c.in-Solo.ensures path)
+
+pub returns-in-Solo-clause-solo_some : goal.returns-in-Solo-clause-solo_some
+returns-in-Solo-clause-solo_some g c =
+    λ solo. c.csrun_solo.ensures.over_some
 
 pub returns-in-Solo-clause-usage : goal.returns-in-Solo-clause-usage
 returns-in-Solo-clause-usage g c =
@@ -99,16 +115,27 @@ write_end-requires-in-Made g c =
 
 pub returns-in-Made-clause-made : goal.returns-in-Made-clause-made
 returns-in-Made-clause-made g c =
-    λ n is. made-same sha_hash _ n c.write_end-in-Made.result _ _ (number-same _ _ _ c.in-Made.ensures.0 is)
-    (made-ended sha_hash c.in-Made.n _ _ c.made_summary.result _ c.made_summary.ensures.text c.made_summary.ensures.memory c.write_end-in-Made.ensures.ends).made
+    λ n is. (
+      passes n,
+      made-same sha_hash _ n c.write_end-in-Made.result _ _ (number-same _ _ _ c.in-Made.ensures.0 is)
+          (made-ended sha_hash c.in-Made.n _ _ c.made_summary.result _ c.made_summary.ensures.text c.made_summary.ensures.memory c.write_end-in-Made.ensures.ends).made,
+    )
 
 pub returns-in-Made-clause-legal : goal.returns-in-Made-clause-legal
 returns-in-Made-clause-legal g c =
-    λ unmade. absurd (number-some _ _ c.in-Made.ensures.0 unmade)
+    λ path. absurd (path-unmade _ _ c.in-Made.n path.1 c.in-Made.ensures.0)
 
-pub returns-in-Made-clause-says : goal.returns-in-Made-clause-says
-returns-in-Made-clause-says g c =
-    λ unmade. absurd (number-some _ _ c.in-Made.ensures.0 unmade)
+pub returns-in-Made-clause-solo_legal : goal.returns-in-Made-clause-solo_legal
+returns-in-Made-clause-solo_legal g c =
+    λ solo. absurd (solo-unmade _ c.in-Made.n solo c.in-Made.ensures.0)
+
+pub returns-in-Made-clause-over_some : goal.returns-in-Made-clause-over_some
+returns-in-Made-clause-over_some g c =
+    λ path. absurd (path-unmade _ _ c.in-Made.n path.1 c.in-Made.ensures.0)
+
+pub returns-in-Made-clause-solo_some : goal.returns-in-Made-clause-solo_some
+returns-in-Made-clause-solo_some g c =
+    λ solo. absurd (solo-unmade _ c.in-Made.n solo c.in-Made.ensures.0)
 
 -- ---- other words
 
@@ -126,11 +153,19 @@ returns-in-Nothing-clause-made g c =
 
 pub returns-in-Nothing-clause-legal : goal.returns-in-Nothing-clause-legal
 returns-in-Nothing-clause-legal g c =
-    λ unmade told tells done. absurd (usage-not-done c.write_end-in-Nothing.result _ _ c.write_end-in-Nothing.ensures.ends done)
+    λ path. absurd (none-not-path _ c.in-Nothing.ensures.0 path)
 
-pub returns-in-Nothing-clause-says : goal.returns-in-Nothing-clause-says
-returns-in-Nothing-clause-says g c =
-    λ unmade. usage-says c.write_end-in-Nothing.result _ _ (PrintsSound sha_hash) c.write_end-in-Nothing.ensures.ends
+pub returns-in-Nothing-clause-solo_legal : goal.returns-in-Nothing-clause-solo_legal
+returns-in-Nothing-clause-solo_legal g c =
+    λ solo. absurd (none-not-solo _ c.in-Nothing.ensures.0 solo)
+
+pub returns-in-Nothing-clause-over_some : goal.returns-in-Nothing-clause-over_some
+returns-in-Nothing-clause-over_some g c =
+    λ path. absurd (none-not-path _ c.in-Nothing.ensures.0 path)
+
+pub returns-in-Nothing-clause-solo_some : goal.returns-in-Nothing-clause-solo_some
+returns-in-Nothing-clause-solo_some g c =
+    λ solo. absurd (none-not-solo _ c.in-Nothing.ensures.0 solo)
 
 pub returns-in-Nothing-clause-usage : goal.returns-in-Nothing-clause-usage
 returns-in-Nothing-clause-usage g c =

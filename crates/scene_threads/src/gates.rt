@@ -1,0 +1,171 @@
+//! Runs whose workers are held at the gate.
+
+use crate::tests::{FAULT, run_words};
+use pg_bytes::Status;
+use pg_io::{Gate, Moment};
+use std::sync::atomic::{AtomicBool, AtomicU32, Ordering};
+use std::test::Fail;
+use std::thread;
+use std::time::{Clock, Duration};
+
+/// Four workers, each of whom faults a page of a file of its own for execution.
+const FOUR_FILES: &str = "\
+scene 1
+raw A 12288 186
+raw A 12288 186
+raw A 12288 186
+raw A 12288 186
+process enforce
+process enforce
+process enforce
+process enforce
+admit dd2875b1ed5de5cda3421fc7fe4869ab72113510
+script
+spawn p0
+map p0 0x10000 f0 0 3 r-x private
+attach f0 0
+fault p0 0x10000 x
+script
+spawn p1
+map p1 0x10000 f1 0 3 r-x private
+attach f1 0
+fault p1 0x10000 x
+script
+spawn p2
+map p2 0x10000 f2 0 3 r-x private
+attach f2 0
+fault p2 0x10000 x
+script
+spawn p3
+map p3 0x10000 f3 0 3 r-x private
+attach f3 0
+fault p3 0x10000 x
+";
+
+/// Holds each worker inside its fault until all four are inside.
+#[derive(Drop)]
+struct Meeting<'a, R> {
+    rt: &'a R,
+    inside: AtomicU32,
+    met: AtomicU32,
+}
+
+impl<R: Clock> Meeting<'_, R> {
+    /// Waits until four are inside, for 1,000,000 turns at most, and answers whether they were.
+    fn are_all_inside(&self) -> bool {
+        for turn in 0..1_000_000 {
+            if self.inside.load(Ordering::SeqCst) == 4 {
+                return true;
+            }
+            if turn % 1000 == 999 {
+                thread::sleep(self.rt, Duration::from_millis(5));
+            }
+        }
+        false
+    }
+}
+
+impl<R: Clock> Gate for Meeting<'_, R> {
+    fn pass(&self, _worker: u32, call: u32, moment: Moment) {
+        if call != FAULT || moment != Moment::Inside {
+            return;
+        }
+        self.inside.fetch_add(1, Ordering::SeqCst);
+        if self.are_all_inside() {
+            self.met.fetch_add(1, Ordering::SeqCst);
+        }
+    }
+}
+
+#[test]
+fn faults_on_four_files_at_once(rt: HostRuntime) -> Result<(), Fail> {
+    let gate = Meeting {
+        rt: &rt,
+        inside: AtomicU32::new(0),
+        met: AtomicU32::new(0),
+    };
+    let (status, text) = run_words(&rt, &["s"], FOUR_FILES, &gate)?;
+    assert_eq!(rt; status, Status::Done);
+    assert_eq!(rt; gate.met.load(Ordering::SeqCst), 4);
+    assert!(rt; text.ends_with("calls 16\ngiven 4\ndenied 0\n"));
+    Ok(())
+}
+
+/// Two workers who fault pages of one file for execution.
+const ONE_FILE: &str = "\
+scene 1
+raw A 12288 186
+process enforce
+process enforce
+admit dd2875b1ed5de5cda3421fc7fe4869ab72113510
+script
+spawn p0
+map p0 0x10000 f0 0 3 r-x private
+attach f0 0
+fault p0 0x10000 x
+script
+spawn p1
+map p1 0x10000 f0 0 3 r-x private
+attach f0 0
+fault p1 0x11000 x
+";
+
+/// Holds a worker inside its fault for a while, so that the other comes to ask the same file, and keeps whether both were
+/// inside at once, and whether a fault was answered before its worker was inside.
+#[derive(Drop)]
+struct Alone<'a, R> {
+    rt: &'a R,
+    came: AtomicU32,
+    left: AtomicU32,
+    answered: AtomicU32,
+    were_together: AtomicBool,
+    was_answered_early: AtomicBool,
+}
+
+impl<R: Clock> Alone<'_, R> {
+    fn hold_inside(&self) {
+        let others = self.left.load(Ordering::SeqCst);
+        if self.came.fetch_add(1, Ordering::SeqCst) != others {
+            self.were_together.store(true, Ordering::SeqCst);
+        }
+        thread::sleep(self.rt, Duration::from_millis(100));
+        self.left.fetch_add(1, Ordering::SeqCst);
+    }
+
+    fn keep_answer(&self) {
+        let answers = self.answered.fetch_add(1, Ordering::SeqCst);
+        if self.left.load(Ordering::SeqCst) <= answers {
+            self.was_answered_early.store(true, Ordering::SeqCst);
+        }
+    }
+}
+
+impl<R: Clock> Gate for Alone<'_, R> {
+    fn pass(&self, _worker: u32, call: u32, moment: Moment) {
+        match moment {
+            Moment::Inside if call == FAULT => self.hold_inside(),
+            Moment::Answered if call == FAULT => self.keep_answer(),
+            _ => {}
+        }
+    }
+}
+
+#[test]
+fn two_faults_of_one_file_in_turn(rt: HostRuntime) -> Result<(), Fail> {
+    let gate = Alone {
+        rt: &rt,
+        came: AtomicU32::new(0),
+        left: AtomicU32::new(0),
+        answered: AtomicU32::new(0),
+        were_together: AtomicBool::new(false),
+        was_answered_early: AtomicBool::new(false),
+    };
+    let (status, text) = run_words(&rt, &["s"], ONE_FILE, &gate)?;
+    assert_eq!(rt; status, Status::Done);
+    assert_eq!(rt; gate.left.load(Ordering::SeqCst), 2);
+    assert_eq!(rt; gate.answered.load(Ordering::SeqCst), 2);
+    assert!(rt; !gate.were_together.load(Ordering::SeqCst));
+    assert!(rt; !gate.was_answered_early.load(Ordering::SeqCst));
+    assert!(rt; text.ends_with("calls 8\ngiven 2\ndenied 0\n"));
+    Ok(())
+}
