@@ -1,6 +1,6 @@
 -- Items are taken one after another.
 use Rattle.std.proofs.Common.{◌≡◌, ℕ, zero, suc, ◌+◌, ◌<◌, ◌⊎◌, inl, inr, cond, List, [], ◌∷◌, ◌++◌, map, length, get_or, take, drop, Option, Some, None, Ok, Err, refl, ap, sym, subst, ◌∙◌, append_assoc, arith}
-use Rattle.std.specs.Prelude.{is_some}
+use Rattle.std.specs.Prelude.{is_some, if◌then◌else◌}
 use Rattle.std.specs.Option.{option_or}
 use Rattle.std.proofs.lemmas.List.{length-map, map-append, take-append-drop, length-take-le, take_more}
 use Rattle.std.proofs.Math.Seq.{drop-cons}
@@ -15,10 +15,10 @@ use Rattle.pg_io.specs.MemPages.{MemPagerNow}
 use Rattle.scene_text.specs.declared.head.Head.{Head}
 use Rattle.scene_open.specs.declared.draft.Draft.{Draft}
 use Rattle.scene_open.specs.declared.open_scene.OpenScene.{OpenScene}
-use Rattle.scene_open.specs.Items.{Item, heads_of, bytes_of, path_of, names_file, found_by, told_behind, items_told, told_after, files_named, ReadsWithin, item_end, items_end}
+use Rattle.scene_open.specs.Items.{Item, heads_of, bytes_of, path_of, names_file, found_by, told_behind, items_told, told_after, files_named, ReadsWithin, item_end, items_end, up_to_end, files_read}
 use Rattle.scene_open.specs.Opening.{declares_file, files_among, layout_of, layouts_of, page_size_of, fails_of, pager_of, pagers_from, static_by, statics_of, cache_by, caches_of}
 use Rattle.pg_trusted.specs.Kept.{opened}
-use Rattle.scene_open.specs.Ends.{OpensTo, Opens, OpensSome}
+use Rattle.scene_open.specs.Ends.{OpensTo, Opens, OpensSome, ReadsUpToEnd}
 use Rattle.scene_open.specs.Drafts.{IsAdded, TakesIt, EndsAt, Takes, IsDraft, told_behind_all, HasTaken, HasEnded, TakesAll, FinishesTo}
 
 -- ---- what items tell, behind others
@@ -68,6 +68,30 @@ ends_join n (x ∷ xs) ys =
 or_none : {A : Type 0} (a : Option A) → option_or a None ≡ a
 or_none None = refl
 or_none (Some x) = refl
+
+both_none : {A : Type 0} (a b : Option A) → option_or a b ≡ None → (a ≡ None) × (b ≡ None)
+both_none None b is = (refl, is)
+both_none (Some x) b is = absurd cc
+
+-- ---- the items up to the end
+
+up_join : (n : ℕ) (xs ys : List Item) → items_end n xs ≡ None → up_to_end n (xs ++ ys) ≡ xs ++ up_to_end (n + length xs) ys
+up_join n [] ys passes = let same : n ≡ n + 0 = omega arith in ap (λ m. up_to_end m ys) same
+up_join n (x ∷ xs) ys passes =
+    let both = both_none (item_end n x) (items_end (n + 1) xs) passes in
+    let same : n + 1 + length xs ≡ n + suc (length xs) = omega arith in
+    ap (λ (e : Option Status). x ∷ (if is_some e then [] else up_to_end (n + 1) (xs ++ ys))) both.0
+    ∙ ap (λ (more : List Item). x ∷ more) (up_join (n + 1) xs ys both.1 ∙ ap (λ m. xs ++ up_to_end m ys) same)
+
+up_all : (n : ℕ) (xs : List Item) → items_end n xs ≡ None → up_to_end n xs ≡ xs
+up_all n [] passes = refl
+up_all n (x ∷ xs) passes =
+    let both = both_none (item_end n x) (items_end (n + 1) xs) passes in
+    ap (λ (e : Option Status). x ∷ (if is_some e then [] else up_to_end (n + 1) xs)) both.0
+    ∙ ap (λ (more : List Item). x ∷ more) (up_all (n + 1) xs both.1)
+
+up_one : (n : ℕ) (x : Item) (xs : List Item) (s : Status) → item_end n x ≡ Some s → up_to_end n (x ∷ xs) ≡ x ∷ []
+up_one n x xs s here = ap (λ (e : Option Status). x ∷ (if is_some e then [] else up_to_end (n + 1) xs)) here
 
 -- ---- what is told
 
@@ -192,18 +216,24 @@ has_ended heads taken rest number h (Some t) old mid s now whole count so_far en
     let x : Item = record { head = h; found = found_by u (path_of h) } in
     let more = items_told (told_behind u (path_of h)) rest in
     let split : items_told t heads ≡ so_far.items ++ x ∷ more = ap (items_told t) whole ∙ told_join t taken (h ∷ rest) ∙ ap (λ l. l ++ x ∷ more) (sym a.0) in
+    let next = next_number so_far.items taken number so_far.lines count in
     let here : item_end number x ≡ Some s = ap (λ (f : Option (List ℕ)). item_end number (record { head = h; found = f })) (sym b.0) ∙ ends.ends in
     let after : now ≡ Some (told_behind_all t (taken ++ h ∷ [])) = b.1 ∙ ap (λ (v : Told). Some v) (sym (behind_join t taken (h ∷ []))) in
-    let joined : (taken ++ h ∷ []) ++ rest ≡ heads = append_assoc taken (h ∷ []) rest ∙ sym whole in
-    let within : ReadsWithin t (files_named heads) now = subst (λ hs. ReadsWithin t (files_named hs) now) joined (reads_some t (taken ++ h ∷ []) rest now after) in
+    let until : up_to_end 1 (items_told t heads) ≡ so_far.items ++ x ∷ [] =
+    ap (up_to_end 1) split ∙ up_join 1 so_far.items (x ∷ more) so_far.passes
+    ∙ ap (λ m. so_far.items ++ up_to_end m (x ∷ more)) next ∙ ap (λ l. so_far.items ++ l) (up_one number x more s here) in
+    let many : files_read (items_told t heads) ≡ files_named (taken ++ h ∷ []) =
+    ap (λ l. files_named (heads_of l)) until ∙ ap files_named (one_head so_far.items x taken so_far.lines) in
+    let reads : now ≡ Some (told_after t (files_read (items_told t heads))) =
+    after ∙ ap (λ (v : Told). Some v) (behind_all t (taken ++ h ∷ []) ∙ ap (told_after t) (sym many)) in
     record {
       items = items_told t heads;
       lines = told_heads t heads;
-      ends = ap (items_end 1) split ∙ ends_next so_far.items x more number so_far.passes (next_number so_far.items taken number so_far.lines count)
+      ends = ap (items_end 1) split ∙ ends_next so_far.items x more number so_far.passes next
           ∙ ap (λ o. option_or o (items_end (number + 1) more)) here;
       told = λ v is.
           let same = told_some t v is in
-          (ap (λ w. items_told w heads) same, subst (λ w. ReadsWithin w (files_named heads) now) same within);
+          (ap (λ w. items_told w heads) same, subst (λ w. now ≡ Some (told_after w (files_read (items_told t heads)))) same reads);
     }
 
 -- ---- want of memory
@@ -211,16 +241,28 @@ has_ended heads taken rest number h (Some t) old mid s now whole count so_far en
 pub has_stopped : (heads taken rest : List Head) (h : Head) (before : Option Told) (old : Draft) (mid now : Option Told)
     → heads ≡ taken ++ h ∷ rest → HasTaken heads taken before old mid
     → ((u : Told) → mid ≡ Some u → (now ≡ Some u) ⊎ (now ≡ Some (told_behind u (path_of h))))
-    → (t : Told) → before ≡ Some t → ReadsWithin t (files_named heads) now
+    → (t : Told) → before ≡ Some t → ReadsWithin t (files_read (items_told t heads)) now
 has_stopped heads taken rest h before old mid now whole so_far stops t is =
     let a = so_far.told t is in
-    subst (λ hs. ReadsWithin t (files_named hs) now) (sym whole) (by (stops (told_behind_all t taken) a.1))
+    let u = told_behind_all t taken in
+    let items = so_far.items in
+    let x : Item = record { head = h; found = found_by u (path_of h) } in
+    let more = items_told (told_behind u (path_of h)) rest in
+    let split : items_told t heads ≡ items ++ x ∷ more = ap (items_told t) whole ∙ told_join t taken (h ∷ rest) ∙ ap (λ l. l ++ x ∷ more) (sym a.0) in
+    let next = 1 + length items in
+    let behind : List Item = if is_some (item_end next x) then [] else up_to_end (next + 1) more in
+    let until : up_to_end 1 (items_told t heads) ≡ items ++ x ∷ behind = ap (up_to_end 1) split ∙ up_join 1 items (x ∷ more) so_far.passes in
+    let lines : heads_of (items ++ x ∷ behind) ≡ taken ++ h ∷ heads_of behind =
+    map-append (λ (y : Item). y.head) items (x ∷ behind) ∙ ap (λ l. l ++ h ∷ heads_of behind) so_far.lines in
+    let many : files_read (items_told t heads) ≡ files_named (taken ++ h ∷ heads_of behind) = ap (λ l. files_named (heads_of l)) until ∙ ap files_named lines in
+    subst (λ n. ReadsWithin t n now) (sym many) (by (heads_of behind) (stops u a.1))
   where
-    by : (now ≡ Some (told_behind_all t taken)) ⊎ (now ≡ Some (told_behind (told_behind_all t taken) (path_of h))) → ReadsWithin t (files_named (taken ++ h ∷ rest)) now
-    by (inl e) = reads_some t taken (h ∷ rest) now e
-    by (inr e) =
+    by : (others : List Head) → (now ≡ Some (told_behind_all t taken)) ⊎ (now ≡ Some (told_behind (told_behind_all t taken) (path_of h)))
+        → ReadsWithin t (files_named (taken ++ h ∷ others)) now
+    by others (inl e) = reads_some t taken (h ∷ others) now e
+    by others (inr e) =
         let after : now ≡ Some (told_behind_all t (taken ++ h ∷ [])) = e ∙ ap (λ (v : Told). Some v) (sym (behind_join t taken (h ∷ []))) in
-        rw (← append_assoc taken (h ∷ []) rest) (reads_some t (taken ++ h ∷ []) rest now after)
+        rw (← append_assoc taken (h ∷ []) others) (reads_some t (taken ++ h ∷ []) others now after)
 
 -- the next item is one of the lines
 pub split_at : (heads : List Head) (i : ℕ) (d : Head) → i < length heads → heads ≡ take i heads ++ get_or heads i d ∷ drop (suc i) heads
@@ -287,9 +329,17 @@ pub told_all : (heads : List Head) (before : Option Told) (draft : Draft) (now :
     → (t : Told) → before ≡ Some t → now ≡ Some (told_after t (files_named heads))
 told_all heads before draft now taken t is = (taken.told t is).1 ∙ ap (λ (u : Told). Some u) (behind_all t heads)
 
+pub told_read : (heads : List Head) (before : Option Told) (draft : Draft) (now : Option Told) → HasTaken heads heads before draft now
+    → (t : Told) → before ≡ Some t → now ≡ Some (told_after t (files_read (items_told t heads)))
+told_read heads before draft now taken t is =
+    let all : files_read (items_told t heads) ≡ files_named heads =
+    ap files_read (sym (taken.told t is).0) ∙ ap (λ l. files_named (heads_of l)) (up_all 1 taken.items taken.passes) ∙ ap files_named taken.lines in
+    told_all heads before draft now taken t is ∙ ap (λ n. Some (told_after t n)) (sym all)
+
 pub told_within : (heads : List Head) (before : Option Told) (draft : Draft) (now : Option Told) → HasTaken heads heads before draft now
-    → (t : Told) → before ≡ Some t → ReadsWithin t (files_named heads) now
-told_within heads before draft now taken t is = record { reads = files_named heads; few = omega arith; after = told_all heads before draft now taken t is }
+    → (t : Told) → before ≡ Some t → ReadsWithin t (files_read (items_told t heads)) now
+told_within heads before draft now taken t is =
+    record { reads = files_read (items_told t heads); few = omega arith; after = told_read heads before draft now taken t is }
 
 pub stopped_some : (heads : List Head) → OpensSome heads (Err status.NoMemory)
 stopped_some heads = record { items = unread heads; lines = unread_heads heads; opens = tt }
@@ -318,13 +368,16 @@ module _ (heads : List Head) (before now : Option Told) where
   ends_some (status.TrustBad item n arg) all = record { items = all.items; lines = all.lines; opens = all.ends }
   ends_some status.NoMemory all = stopped_some heads
 
-  pub ends_within : (s : Status) → TakesAll heads before now (Err s) → (t : Told) → before ≡ Some t → ReadsWithin t (files_named heads) now
-  ends_within status.Done all t is = (all.told t is).1
-  ends_within status.NotSealed all t is = (all.told t is).1
-  ends_within status.Usage all t is = (all.told t is).1
-  ends_within (status.SceneBad line kind) all t is = (all.told t is).1
-  ends_within (status.FileFault item) all t is = (all.told t is).1
-  ends_within status.SinkFault all t is = (all.told t is).1
-  ends_within (status.Limit which limit) all t is = (all.told t is).1
-  ends_within (status.TrustBad item n arg) all t is = (all.told t is).1
-  ends_within status.NoMemory all t is = all t is
+  ended_reads : (s : Status) → HasEnded heads before s now → (t : Told) → before ≡ Some t → now ≡ Some (told_after t (files_read (items_told t heads)))
+  ended_reads s ended t is = (ended.told t is).1 ∙ ap (λ l. Some (told_after t (files_read l))) (ended.told t is).0
+
+  pub ends_reads : (s : Status) → TakesAll heads before now (Err s) → (t : Told) → before ≡ Some t → ReadsUpToEnd t (items_told t heads) (Err s) now
+  ends_reads status.Done all t is = ended_reads status.Done all t is
+  ends_reads status.NotSealed all t is = ended_reads status.NotSealed all t is
+  ends_reads status.Usage all t is = ended_reads status.Usage all t is
+  ends_reads (status.SceneBad line kind) all t is = ended_reads (status.SceneBad line kind) all t is
+  ends_reads (status.FileFault item) all t is = ended_reads (status.FileFault item) all t is
+  ends_reads status.SinkFault all t is = ended_reads status.SinkFault all t is
+  ends_reads (status.Limit which limit) all t is = ended_reads (status.Limit which limit) all t is
+  ends_reads (status.TrustBad item n arg) all t is = ended_reads (status.TrustBad item n arg) all t is
+  ends_reads status.NoMemory all t is = all t is

@@ -14,7 +14,7 @@ use Rattle.scene_text.specs.declared.head.Head.{Head}
 use Rattle.scene_text.specs.declared.head.Head.TheVariants as head
 use Rattle.scene_open.specs.declared.draft.Draft.{Draft}
 use Rattle.scene_open.specs.declared.open_scene.OpenScene.{OpenScene}
-use Rattle.scene_open.specs.Items.{Item, heads_of, path_of, found_by, told_behind, items_told, files_named, ReadsWithin, file_end, static_end, item_end, items_end}
+use Rattle.scene_open.specs.Items.{Item, heads_of, path_of, found_by, told_behind, items_told, told_after, files_read, ReadsWithin, file_end, static_end, item_end, items_end}
 use Rattle.scene_open.specs.Opening.{page_size_of, fails_of, files_among, pager_of, pagers_from, layouts_of, statics_of, table_by, caches_of}
 
 -- the columns of a header line are such that its file can be read and laid out
@@ -138,17 +138,17 @@ pub record HasTaken (heads taken : List Head) (before : Option Told) (draft : Dr
   pub parts : IsDraft heads items draft
   pub told : (t : Told) → before ≡ Some t → (items ≡ items_told t taken) × (now ≡ Some (told_behind_all t taken))
 
--- The first of the items that ends the run ends it so.
+-- The first of the items that ends the run ends it so, and no file of those behind it was read.
 pub record HasEnded (heads : List Head) (before : Option Told) (s : Status) (now : Option Told) : Type 0 where
   pub items : List Item
   pub lines : heads_of items ≡ heads
   pub ends : items_end 1 items ≡ Some s
-  pub told : (t : Told) → before ≡ Some t → (items ≡ items_told t heads) × ReadsWithin t (files_named heads) now
+  pub told : (t : Told) → before ≡ Some t → (items ≡ items_told t heads) × (now ≡ Some (told_after t (files_read items)))
 
 -- what reading all items answered
 abbrev pub TakesAll : List Head → Option Told → Option Told → Result Draft Status → Type 0
 TakesAll heads before now (Ok draft) = HasTaken heads heads before draft now
-TakesAll heads before now (Err status.NoMemory) = (t : Told) → before ≡ Some t → ReadsWithin t (files_named heads) now
+TakesAll heads before now (Err status.NoMemory) = (t : Told) → before ≡ Some t → ReadsWithin t (files_read (items_told t heads)) now
 TakesAll heads before now (Err s) = HasEnded heads before s now
 
 -- The parts are handed on, and nothing is loaded.

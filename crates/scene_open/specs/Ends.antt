@@ -10,7 +10,8 @@ use Rattle.scene_text.specs.declared.whole.Scene.{Scene}
 use Rattle.scene_text.specs.Texts.{Flaw, said, IsScene}
 use Rattle.scene_open.specs.declared.open_scene.OpenScene.{OpenScene}
 use Rattle.scene_open.specs.Limits.{over_limit}
-use Rattle.scene_open.specs.Items.{Item, heads_of, items_end}
+use Rattle.pg_io.specs.Files.{Told}
+use Rattle.scene_open.specs.Items.{Item, heads_of, items_end, told_after, files_read, ReadsWithin}
 use Rattle.scene_open.specs.Opening.{pagers_of, layouts_of, trust_of}
 
 -- ---- the scene
@@ -73,6 +74,13 @@ pub record OpensSome (heads : List Head) (result : Result OpenScene Status) : Ty
   pub items : List Item
   pub lines : heads_of items ≡ heads
   pub opens : Opens items result
+
+-- As many reads were made as the items up to the first that ends the run name files. Where memory ran out, at most so many
+-- were.
+abbrev pub ReadsUpToEnd : Told → List Item → Result OpenScene Status → Option Told → Type 0
+ReadsUpToEnd told items (Ok o) now = now ≡ Some (told_after told (files_read items))
+ReadsUpToEnd told items (Err status.NoMemory) now = ReadsWithin told (files_read items) now
+ReadsUpToEnd told items (Err s) now = now ≡ Some (told_after told (files_read items))
 
 -- ---- the cause
 

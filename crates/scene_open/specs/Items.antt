@@ -105,3 +105,13 @@ item_end number item = found_end number item.head item.found
 abbrev pub items_end : ℕ → List Item → Option Status
 items_end number [] = None
 items_end number (item ∷ items) = option_or (item_end number item) (items_end (number + 1) items)
+
+-- the items up to the first that ends the run, with it; or all of them
+abbrev pub up_to_end : ℕ → List Item → List Item
+up_to_end number [] = []
+up_to_end number (item ∷ items) =
+    item ∷ (if is_some (item_end number item) then [] else up_to_end (number + 1) items)
+
+-- how many files these name
+abbrev pub files_read : List Item → ℕ
+files_read items = files_named (heads_of (up_to_end 1 items))

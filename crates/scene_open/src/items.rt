@@ -5,9 +5,9 @@ ghost use Rattle.pg_io.specs.Files.{Told};
 ghost use Rattle.scene_text.specs.Scenes.{scene_lines};
 ghost use Rattle.scene_text.specs.Texts.{MeetsGrammar};
 ghost use Rattle.scene_open.specs.Limits.{IsWithin};
-ghost use Rattle.scene_open.specs.Items.{items_told, told_after, files_named, ReadsWithin};
+ghost use Rattle.scene_open.specs.Items.{items_told, told_after, files_named};
 ghost use Rattle.scene_open.specs.Opening.{opening_with};
-ghost use Rattle.scene_open.specs.Ends.{Opens, OpensSome, IsCaused};
+ghost use Rattle.scene_open.specs.Ends.{Opens, OpensSome, ReadsUpToEnd, IsCaused};
 ghost use Rattle.scene_open.specs.Fits.{IsOpeningFor};
 ghost use Rattle.scene_open.specs.Drafts.{IsReadable, TakesAll};
 
@@ -39,8 +39,8 @@ fn take_all<F: Files>(alloc: Global, files: &mut F, heads: &[Head]) -> Result<Dr
     Ok(draft)
 }
 
-/// Reads the files of the scene's items in their order and makes the parts of its machine of them. At most one read is
-/// made for each header line that names a file.
+/// Reads the files of the scene's items in their order and makes the parts of its machine of them. One read is made for each
+/// header line that names a file, up to the first item that does not pass. Where memory ran out, at most so many are made.
 ///
 /// The error is the status of the first item that does not pass: `FileFault` where its file cannot be read, `Limit` of
 /// `FileBytes` where a file has more than 67,108,864 bytes, and then of `SignatureBytes` where the signature of one of
@@ -65,7 +65,7 @@ pub fn open_items<F: Files>(
     ensures read { (told : Told) → F.tells files.old ≡ Some told →
         OnOk result (F.tells files.new ≡ Some (told_after told (files_named scene.now.head))) }
     ensures reads { (told : Told) → F.tells files.old ≡ Some told →
-        ReadsWithin told (files_named scene.now.head) (F.tells files.new) }
+        ReadsUpToEnd told (items_told told scene.now.head) result (F.tells files.new) }
     ensures cause { IsCaused result (F.faults files.old) (F.faults files.new) }
 {
     let draft = match take_all(alloc, files, scene.head.items()) {

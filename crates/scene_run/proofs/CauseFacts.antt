@@ -1,6 +1,6 @@
 -- What ends a run early, and by what it is caused.
-use Rattle.std.proofs.Common.{◌≡◌, ℕ, suc, ◌+◌, ◌≤◌, Bool, true, false, List, [], ◌∷◌, Option, Some, None, Result, Ok, Err, sym, subst, arith}
-use Rattle.std.specs.Prelude.{if◌then◌else◌, cond}
+use Rattle.std.proofs.Common.{◌≡◌, ℕ, suc, ◌+◌, ◌≤◌, Bool, true, false, List, [], ◌∷◌, Option, Some, None, Result, Ok, Err, sym, ap, subst, ◌∙◌, arith}
+use Rattle.std.specs.Prelude.{if◌then◌else◌, cond, is_some}
 use Rattle.std.specs.Option.{option_or}
 use Rattle.pg_bytes.specs.Rules.{Rule, first}
 use Rattle.pg_bytes.specs.declared.status.Status.{Status}
@@ -17,10 +17,10 @@ use Rattle.scene_text.specs.Texts.{Flaw, said}
 use Rattle.scene_open.specs.declared.open_scene.OpenScene.{OpenScene}
 use Rattle.scene_open.specs.Limits.{over_limit, count_rules}
 use Rattle.scene_open.specs.Layouts.{macho_layout, raw_layout, has_long}
-use Rattle.scene_open.specs.Items.{Item, names_file, file_end, static_end, bytes_end, found_end, item_end, items_end, ReadsWithin, files_named}
+use Rattle.scene_open.specs.Items.{Item, names_file, file_end, static_end, bytes_end, found_end, item_end, items_end, items_told, files_read, ReadsWithin}
 use Rattle.scene_open.specs.Ends as ends
-use Rattle.scene_open.specs.Ends.{said_end, text_end, scene_end, IsSceneOf, ReadsScene, ReadsSome, Opens, OpensSome}
-use Rattle.scene_run.specs.Ending.{most_reads, EarlyIsCaused}
+use Rattle.scene_open.specs.Ends.{said_end, text_end, scene_end, IsSceneOf, ReadsScene, ReadsSome, Opens, OpensSome, ReadsUpToEnd}
+use Rattle.scene_run.specs.Ending.{heads_in, lines_found, most_behind, EarlyIsCaused}
 use Rattle.scene_run.proofs.EndingFacts.{heads-found}
 
 -- the status is one with which a run can end before its first event
@@ -148,10 +148,34 @@ items-caused before now status.SinkFault heads some is = absurd (is-early (items
 
 -- ---- reads
 
-pub all-reads : (told : Told) (found : Option (List ℕ)) (scene : Scene) (now : Option Told) → IsSceneOf found scene
-    → ReadsWithin (after_read told) (files_named scene.head) now → ReadsWithin told (most_reads found) now
-all-reads told found scene now is within = record {
-  reads = suc within.reads;
-  few = subst (λ hs. suc within.reads ≤ 1 + files_named hs) (sym (heads-found found scene is)) (omega (arith, within.few));
-  after = within.after;
-}
+reads-within : (told : Told) (items : List Item) (r : Result OpenScene Status) (now : Option Told) → ReadsUpToEnd told items r now
+    → ReadsWithin told (files_read items) now
+reads-within told items (Ok o) now is = record { reads = files_read items; few = omega arith; after = is }
+reads-within told items (Err status.Done) now is = record { reads = files_read items; few = omega arith; after = is }
+reads-within told items (Err status.NotSealed) now is = record { reads = files_read items; few = omega arith; after = is }
+reads-within told items (Err status.Usage) now is = record { reads = files_read items; few = omega arith; after = is }
+reads-within told items (Err (status.SceneBad line kind)) now is = record { reads = files_read items; few = omega arith; after = is }
+reads-within told items (Err (status.FileFault item)) now is = record { reads = files_read items; few = omega arith; after = is }
+reads-within told items (Err status.SinkFault) now is = record { reads = files_read items; few = omega arith; after = is }
+reads-within told items (Err (status.Limit which number)) now is = record { reads = files_read items; few = omega arith; after = is }
+reads-within told items (Err (status.TrustBad item number arg)) now is = record { reads = files_read items; few = omega arith; after = is }
+reads-within told items (Err status.NoMemory) now is = is
+
+most-of : (told : Told) (found : Option (List ℕ)) (scene : Scene) → IsSceneOf found scene
+    → most_behind told found ≡ 1 + files_read (items_told told scene.head)
+most-of told found scene is =
+    ap (λ (e : Option Status). 1 + (if is_some e then 0 else files_read (items_told told (heads_in (lines_found found))))) (ap scene_end is.read ∙ is.passes)
+    ∙ ap (λ hs. 1 + files_read (items_told told hs)) (heads-found found scene is)
+
+pub all-reads : (told : Told) (found : Option (List ℕ)) (scene : Scene) (r : Result OpenScene Status) (now : Option Told) → IsSceneOf found scene
+    → ReadsUpToEnd (after_read told) (items_told (after_read told) scene.head) r now → ReadsWithin told (most_behind (after_read told) found) now
+all-reads told found scene r now is reads =
+    let within = reads-within (after_read told) (items_told (after_read told) scene.head) r now reads in record {
+      reads = suc within.reads;
+      few = subst (λ n. suc within.reads ≤ n) (sym (most-of (after_read told) found scene is)) (omega (arith, within.few));
+      after = within.after;
+    }
+
+-- the read of the scene's file alone
+pub one-read : (told : Told) (found : Option (List ℕ)) (now : Option Told) → ReadsWithin told 1 now → ReadsWithin told (most_behind (after_read told) found) now
+one-read told found now within = record { reads = within.reads; few = omega (arith, within.few); after = within.after }

@@ -6,7 +6,7 @@ use Rattle.pg_digest.specs.Kinds.{Hash}
 use Rattle.pg_history.specs.Legal.{calls_in}
 use Rattle.pg_history.proofs.SoloFacts.{ordered_is_solo}
 use Rattle.pg_report.specs.Journal.{journal}
-use Rattle.pg_io.specs.Files.{Told, next_read}
+use Rattle.pg_io.specs.Files.{Told}
 use Rattle.scene_open.specs.Items.{ReadsWithin}
 use Rattle.scene_run.specs.Ending.{Ending, Run, run_path, run_by, most_reads, reads_by, ended, Ends, Prints, PrintsLegal, RunsTo, OverSome, IsEndOf, EndsTo, Finishes, FinishesSolo}
 use Rattle.scene_run.proofs.EndingFacts.{map-some}
@@ -67,5 +67,5 @@ module _ (hash : Hash) where
       subst (λ (p : Option (List ℕ)). RunsTo (PrintsLegal hash) (run_by told p) before now) (sym is) (solo-runs (run_path told path) before now runs)
 
 pub path-reads : (told : Told) (named : Option (List ℕ)) (path : List ℕ) (now : Option Told) → named ≡ Some path
-    → ReadsWithin told (most_reads (next_read told path)) now → ReadsWithin told (reads_by named told) now
+    → ReadsWithin told (most_reads told path) now → ReadsWithin told (reads_by named told) now
 path-reads told named path now is reads = subst (λ (p : Option (List ℕ)). ReadsWithin told (reads_by p told) now) (sym is) reads

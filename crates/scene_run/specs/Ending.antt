@@ -1,5 +1,5 @@
 -- How a run ends: its status, and the text that it writes.
-use Rattle.std.specs.Prelude.{ℕ, ◌≡◌, ◌⊎◌, ◌≤◌, ◌+◌, List, [], ◌∷◌, codes, Option, Some, None, unwrap_or, Result, Ok, Err, if◌then◌else◌}
+use Rattle.std.specs.Prelude.{ℕ, ◌≡◌, ◌⊎◌, ◌≤◌, ◌+◌, List, [], ◌∷◌, codes, Option, Some, None, is_some, unwrap_or, Result, Ok, Err, if◌then◌else◌}
 use Rattle.std.specs.Result.{result_err, result_ok}
 use Rattle.std.specs.Global.{Vec}
 use Rattle.std.specs.Str.{bytes_eq}
@@ -22,7 +22,7 @@ use Rattle.scene_text.specs.declared.line.Line as scene_line
 use Rattle.scene_text.specs.Texts.{said}
 use Rattle.pg_report.specs.Journal.{journal}
 use Rattle.scene_open.specs.Ends.{scene_end}
-use Rattle.scene_open.specs.Items.{Item, heads_of, items_told, items_end, files_named}
+use Rattle.scene_open.specs.Items.{Item, heads_of, items_told, items_end, files_read}
 use Rattle.scene_open.specs.Opening.{opening_of, opening_with}
 use Rattle.scene_open.specs.declared.open_scene.OpenScene.{OpenScene}
 use Rattle.scene_run.specs.Texts.{early_line}
@@ -283,11 +283,17 @@ CountsFaults other before now = now ≡ before
 
 -- ---- reads
 
--- how many files a run over what was found of its scene reads at most, the scene's file among them
-abbrev pub most_reads : Option (List ℕ) → ℕ
-most_reads found = 1 + files_named (heads_in (lines_found found))
+-- how many files a run reads at most, where this was found of its scene's file and this is told behind the read of it: the
+-- scene's file and, where that does not end the run, those that its items name up to the first that does
+abbrev pub most_behind : Told → Option (List ℕ) → ℕ
+most_behind told found =
+    1 + (if is_some (scene_end found) then 0 else files_read (items_told told (heads_in (lines_found found))))
+
+-- the same of a run over the scene in the file of this path
+abbrev pub most_reads : Told → List ℕ → ℕ
+most_reads told path = most_behind (after_read told) (next_read told path)
 
 -- how many a run of these words does
 abbrev pub reads_by : Option (List ℕ) → Told → ℕ
 reads_by None told = 0
-reads_by (Some path) told = most_reads (next_read told path)
+reads_by (Some path) told = most_reads told path

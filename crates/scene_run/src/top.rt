@@ -3,7 +3,7 @@
 ghost use Rattle.std.specs.Prelude.{◌≡◌, ◌≢◌, map, Some, string_bytes};
 ghost use Rattle.pg_bytes.specs.Counts.{Rose};
 ghost use Rattle.pg_digest.specs.Digests.{sha_hash};
-ghost use Rattle.pg_io.specs.Files.{Told, next_read};
+ghost use Rattle.pg_io.specs.Files.{Told};
 ghost use Rattle.scene_open.specs.Items.{ReadsWithin};
 ghost use Rattle.scene_run.specs.Ending.{AreSolo, path_of, run_path, run_of, ending_of, most_reads, reads_by, Prints, OverSome, Answers, AnswerIsCaused, Ends, FinishesSolo, CountsFaults, RunsLegal};
 ghost use Rattle.scene_run.specs.Runs.{RunsSolo};
@@ -33,7 +33,7 @@ fn solo_journal<F: Files>(alloc: Global, path: &str, files: &mut F) -> Result<Ve
     ensures some { OverSome (λ goes. Answers (Prints sha_hash (RunsSolo sha_hash)) goes result) }
     ensures cause { AnswerIsCaused (F.faults files.old) (F.faults files.new) result }
     ensures reads { (told : Told) → F.tells files.old ≡ Some told →
-        ReadsWithin told (most_reads (next_read told path.now)) (F.tells files.new) }
+        ReadsWithin told (most_reads told path.now) (F.tells files.new) }
 {
     let (scene, opened) = match open_path(alloc, path, files) {
         Ok(both) => both,
@@ -89,7 +89,8 @@ pub fn csrun_solo<F: Files, K: Sink>(
     // sink, which may come in its place.
     ensures faults { CountsFaults result (F.faults files.old) (F.faults files.new) }
 
-    // The scene's file, and each file that a header line names, is read at most once, also where memory runs out.
+    // At most one read is made for the scene's file, and for each file that a header line names up to the first item that ends
+    // the run, also where memory runs out.
     ensures reads { (told : Told) → F.tells files.old ≡ Some told →
         ReadsWithin told (reads_by (path_of (map string_bytes words.now)) told)
         (F.tells files.new) }

@@ -6,7 +6,7 @@ use Rattle.pg_bytes.specs.declared.status.Status.{Status}
 use Rattle.pg_bytes.specs.declared.status.Status.TheVariants as status
 use Rattle.pg_io.specs.Files.{Told}
 use Rattle.scene_open.specs.Items.{ReadsWithin}
-use Rattle.scene_run.specs.Ending.{Run, AreSolo, path_of, run_path, run_by, reads_by, early_end, Ends, EndsTo, EndsBy, RunsTo, CountsFaults}
+use Rattle.scene_run.specs.Ending.{Run, AreSolo, path_of, run_path, run_by, reads_by, EndsTo, EndsBy, RunsTo, CountsFaults}
 use Rattle.scene_threads.specs.Words.{ArePath, made_number, EndsByWords}
 
 -- ---- the paths that words name
@@ -112,12 +112,8 @@ module _ (s : Status) (before now : Option (List ℕ)) where
       let le : count ≤ count = omega arith in
       subst (λ (x : Status). CountsFaults x count count) (sym out.0) le
 
-  usage_ends : IsUsage s before now → Ends (early_end status.Usage) s before now
-  usage_ends (inl out) = subst (λ (x : Status). Ends (early_end status.Usage) x before now) (sym out.0) (refl, out.1)
-  usage_ends (inr out) = subst (λ (x : Status). Ends (early_end status.Usage) x before now) (sym out.0) out.1
-
   pub usage-by-words : (named : Option (List ℕ)) (number : Option ℕ) → named ≡ None → number ≡ None → IsUsage s before now → EndsByWords named number s before now
-  usage-by-words named number none unmade out = rw (none, unmade) (usage_ends out)
+  usage-by-words named number none unmade out = rw (none, unmade) out
 
 pub none-reads : (told : Told) (named : Option (List ℕ)) (now : Option Told) → named ≡ None → now ≡ Some told → ReadsWithin told (reads_by named told) now
 none-reads told named now none tells =

@@ -3,7 +3,7 @@ use Rattle.std.specs.Prelude.{ℕ, ◌≡◌, ◌≢◌, ◌≤◌, ◌^◌, ◌
 use Rattle.pg_words.specs.Numbers.{number_word}
 use Rattle.pg_bytes.specs.declared.status.Status.{Status}
 use Rattle.pg_bytes.specs.declared.status.Status.TheVariants as status
-use Rattle.scene_run.specs.Ending.{AreSolo, path_of, early_end, Ends}
+use Rattle.scene_run.specs.Ending.{AreSolo, path_of, early_end, GoesOut}
 use Rattle.scene_threads.specs.declared.words.Request.{Request}
 use Rattle.scene_threads.specs.declared.words.Request.TheVariants as request
 
@@ -31,9 +31,9 @@ AskFor words request.Solo = AreSolo words
 AskFor words (request.Made n) = (made_number words ≡ Some n) × (1 ≤ n) × (n ≤ 1000)
 AskFor words request.Nothing = (path_of words ≡ None) × (made_number words ≡ None)
 
--- Words that name neither a path nor a number end the run by the usage line, and no others do. A fault of the sink may come
--- in its place.
+-- Words that name neither a path nor a number end the run by the usage line, and no others do: the line goes out whole, or the
+-- sink faults and a first part of it goes out.
 abbrev pub EndsByWords : Option (List ℕ) → Option ℕ → Status → Option (List ℕ) → Option (List ℕ) → Type 0
-EndsByWords None None s before now = Ends (early_end status.Usage) s before now
+EndsByWords None None s before now = GoesOut (early_end status.Usage) s before now
 EndsByWords None (Some n) s before now = s ≢ status.Usage
 EndsByWords (Some path) number s before now = s ≢ status.Usage

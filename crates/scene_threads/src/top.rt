@@ -3,7 +3,7 @@
 ghost use Rattle.std.specs.Prelude.{◌≡◌, ◌≢◌, ℕ, map, Some, None, string_bytes};
 ghost use Rattle.pg_bytes.specs.Counts.{Rose};
 ghost use Rattle.pg_digest.specs.Digests.{sha_hash};
-ghost use Rattle.pg_io.specs.Files.{Told, next_read};
+ghost use Rattle.pg_io.specs.Files.{Told};
 ghost use Rattle.scene_open.specs.Items.{ReadsWithin};
 ghost use Rattle.scene_run.specs.Ending.{AreSolo, path_of, run_path, run_of, ending_of, most_reads, reads_by, OverSome, Answers, AnswerIsCaused, Ends, EndsTo, RunsTo, RunsLegal, Finishes, FinishesSolo, CountsFaults};
 ghost use Rattle.scene_threads.specs.Sound.{PrintsSound};
@@ -33,7 +33,7 @@ fn shared_journal<R: Threads + Wait + Sync, F: Files, G: Gate + Sync>(
     ensures some { OverSome (λ goes. Answers (PrintsSound sha_hash) goes result) }
     ensures cause { AnswerIsCaused (F.faults files.old) (F.faults files.new) result }
     ensures reads { (told : Told) → F.tells files.old ≡ Some told →
-        ReadsWithin told (most_reads (next_read told path.now)) (F.tells files.new) }
+        ReadsWithin told (most_reads told path.now) (F.tells files.new) }
 {
     let (scene, opened) = match open_path(alloc, path, files) {
         Ok(both) => both,
@@ -117,7 +117,8 @@ pub fn csrun_main<R: Threads + Wait + Sync, F: Files, K: Sink, G: Gate + Sync>(
         OverSome (FinishesSolo sha_hash result
         (K.written out.old) (K.written out.new)) }
 
-    // Usage comes exactly where the words name neither a path nor a number from 1 to 1,000 behind `gen`.
+    // Usage comes exactly where the words name neither a path nor a number from 1 to 1,000 behind `gen`. For such words its
+    // line goes out whole, or the sink faults.
     ensures usage { EndsByWords (path_of (map string_bytes words.now))
         (made_number (map string_bytes words.now)) result
         (K.written out.old) (K.written out.new) }
@@ -127,7 +128,8 @@ pub fn csrun_main<R: Threads + Wait + Sync, F: Files, K: Sink, G: Gate + Sync>(
     ensures faults { CountsFaults result (F.faults files.old) (F.faults files.new) }
     ensures no_verdict { result ≢ Status.NotSealed }
 
-    // The scene's file, and each file that a header line names, is read at most once, also where memory runs out.
+    // At most one read is made for the scene's file, and for each file that a header line names up to the first item that ends
+    // the run, also where memory runs out.
     ensures reads { (told : Told) → F.tells files.old ≡ Some told →
         ReadsWithin told (reads_by (path_of (map string_bytes words.now)) told)
         (F.tells files.new) }

@@ -1,13 +1,13 @@
 use Rattle.std.proofs.Common.{◌≡◌, ◌^◌, ◌<◌, List, length, Some, Err, ap, sym, subst, ◌∙◌, arith}
 use Rattle.std.specs.Prelude.{All}
 use Rattle.scene_text.specs.declared.head.Head.{Head}
-use Rattle.scene_open.specs.Items.{items_told, told_after, files_named, ReadsWithin}
-use Rattle.scene_open.specs.Ends.{Opens, OpensSome}
+use Rattle.scene_open.specs.Items.{items_told, told_after, files_named, files_read, ReadsWithin}
+use Rattle.scene_open.specs.Ends.{Opens, OpensSome, ReadsUpToEnd}
 use Rattle.scene_open.specs.Drafts.{IsReadable}
 use Rattle.scene_open.proofs.FitFacts.{all_readable}
 use Rattle.scene_open.proofs.SizeFacts.{few_heads}
 use Rattle.scene_open.proofs.OpeningFacts.{opening_fits, paired, few_statics}
-use Rattle.scene_open.proofs.ItemFacts.{opens_to, told_all, told_within, ends_told, ends_some, ends_within}
+use Rattle.scene_open.proofs.ItemFacts.{opens_to, told_all, told_read, told_within, ends_told, ends_some, ends_reads}
 use Rattle.scene_open.proofs.items.open_items.Goals as goal
 
 pub take_all-requires-clause-readable : goal.take_all-requires-clause-readable
@@ -34,8 +34,8 @@ returns-in-Err-clause-some g c =
 
 pub returns-in-Err-clause-reads : goal.returns-in-Err-clause-reads
 returns-in-Err-clause-reads g c = λ t is.
-    subst (λ (hs : List Head). ReadsWithin t (files_named hs) (g.F.Files.tells c.take_all.new.files)) c.items.ensures
-    (ends_within c.items.result.now _ _ c.in-Err.status c.in-Err.ensures.takes t is)
+    subst (λ (hs : List Head). ReadsUpToEnd t (items_told t hs) (Err c.in-Err.status) (g.F.Files.tells c.take_all.new.files)) c.items.ensures
+    (ends_reads c.items.result.now _ _ c.in-Err.status c.in-Err.ensures.takes t is)
 
 pub returns-in-Ok-finish-clause-opening : goal.returns-in-Ok-finish-clause-opening
 returns-in-Ok-finish-clause-opening g c =
@@ -57,10 +57,10 @@ returns-in-Ok-finish-clause-read g c = λ t is.
 
 pub returns-in-Ok-finish-clause-reads : goal.returns-in-Ok-finish-clause-reads
 returns-in-Ok-finish-clause-reads g c = λ t is.
-    subst (λ (hs : List Head). ReadsWithin t (files_named hs) (g.F.Files.tells c.take_all.new.files)) c.items.ensures
-    (told_within c.items.result.now _ c.in-Ok.draft _ c.in-Ok.ensures.takes t is)
+    subst (λ (hs : List Head). g.F.Files.tells c.take_all.new.files ≡ Some (told_after t (files_read (items_told t hs)))) c.items.ensures
+    (told_read c.items.result.now _ c.in-Ok.draft _ c.in-Ok.ensures.takes t is)
 
 pub returns-in-Err-finish-clause-reads : goal.returns-in-Err-finish-clause-reads
 returns-in-Err-finish-clause-reads g c = λ t is.
-    subst (λ (hs : List Head). ReadsWithin t (files_named hs) (g.F.Files.tells c.take_all.new.files)) c.items.ensures
+    subst (λ (hs : List Head). ReadsWithin t (files_read (items_told t hs)) (g.F.Files.tells c.take_all.new.files)) c.items.ensures
     (told_within c.items.result.now _ c.in-Ok.draft _ c.in-Ok.ensures.takes t is)

@@ -1,8 +1,8 @@
-use Rattle.std.proofs.Common.{◌∙◌, subst}
+use Rattle.std.proofs.Common.{Ok, Err, ◌∙◌, subst}
 use Rattle.pg_io.specs.Files.{next_read, after_read}
 use Rattle.scene_run.specs.Ending.{EarlyIsCaused}
 use Rattle.scene_run.proofs.EndingFacts.{scene-ends, items-ends, goes-from, scene-some, items-some, opened-some}
-use Rattle.scene_run.proofs.CauseFacts.{scene-caused, items-caused, all-reads}
+use Rattle.scene_run.proofs.CauseFacts.{scene-caused, items-caused, all-reads, one-read}
 use Rattle.scene_run.proofs.opening.open_path.Goals as goal
 
 pub returns-in-Err-clause-cause : goal.returns-in-Err-clause-cause
@@ -22,15 +22,18 @@ returns-in-Err-open_items-clause-cause g c =
     subst (λ n. EarlyIsCaused n (g.F.Files.faults c.open_items.new.files) c.in-Err-open_items.status) c.in-Ok.ensures.cause
     (items-caused _ _ c.in-Err-open_items.status c.in-Ok.scene.head c.in-Err-open_items.ensures.some c.in-Err-open_items.ensures.cause)
 
+pub returns-in-Err-clause-reads : goal.returns-in-Err-clause-reads
+returns-in-Err-clause-reads g c = λ told tells. one-read told (next_read told c.args.path.now) _ (c.in-Err.ensures.reads told tells)
+
 pub returns-in-Err-open_items-clause-reads : goal.returns-in-Err-open_items-clause-reads
 returns-in-Err-open_items-clause-reads g c = λ told tells.
-    all-reads told (next_read told c.args.path.now) c.in-Ok.scene _ (c.in-Ok.ensures.told told tells)
-    (c.open_items.ensures.reads (after_read told) (c.in-Ok.ensures.read told tells))
+    all-reads told (next_read told c.args.path.now) c.in-Ok.scene (Err c.in-Err-open_items.status) _ (c.in-Ok.ensures.told told tells)
+    (c.in-Err-open_items.ensures.reads (after_read told) (c.in-Ok.ensures.read told tells))
 
 pub returns-clause-reads : goal.returns-clause-reads
 returns-clause-reads g c = λ told tells.
-    all-reads told (next_read told c.args.path.now) c.in-Ok.scene _ (c.in-Ok.ensures.told told tells)
-    (c.open_items.ensures.reads (after_read told) (c.in-Ok.ensures.read told tells))
+    all-reads told (next_read told c.args.path.now) c.in-Ok.scene (Ok c.in-Ok-open_items.opened) _ (c.in-Ok.ensures.told told tells)
+    (c.in-Ok-open_items.ensures.reads (after_read told) (c.in-Ok.ensures.read told tells))
 
 pub returns-clause-told : goal.returns-clause-told
 returns-clause-told g c = λ told tells.
