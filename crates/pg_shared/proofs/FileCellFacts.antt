@@ -1,6 +1,6 @@
 -- A file is asked behind its lock.
 use Rattle.std.proofs.Common.{◌≡◌, ◌⊎◌, ℕ, ◌+◌, ◌≤◌, [], length, Option, Some, None, sym, ap, subst, ◌∙◌, arith, inl, inr}
-use Rattle.std.specs.Prelude.{IsTrue, slice_get}
+use Rattle.std.specs.Prelude.{IsTrue, IsSomeAnd, slice_get}
 use Rattle.std.specs.Option.{option_map, option_map_or}
 use Rattle.std.proofs.lemmas.Grind.{common_steps}
 use Rattle.std.proofs.lemmas.Option.{slice_get-map}
@@ -16,6 +16,7 @@ use Rattle.cs_policy.specs.declared.file.FileEvent.{FileEvent}
 use Rattle.cs_policy.specs.declared.file.FileEvent.TheVariants as file
 use Rattle.cs_policy.specs.declared.file.FileReply.{FileReply}
 use Rattle.cs_policy.specs.declared.entry.Event.TheVariants as event
+use Rattle.cs_policy.specs.declared.entry.Reply.{Reply}
 use Rattle.cs_policy.specs.declared.entry.Reply.TheVariants as reply
 use Rattle.cs_policy.specs.declared.entry.Place.TheVariants as place
 use Rattle.cs_policy.specs.declared.entry.Who.{Who}
@@ -32,6 +33,7 @@ use Rattle.pg_sealing.proofs.BlobFacts.{Attaches, step_blobs}
 use Rattle.pg_history.specs.Machine.{Line, FilePart, signed_range, blob_of}
 use Rattle.pg_history.specs.Opening.{Numbers, FileNumbers, pages_of, range_of, seat_in}
 use Rattle.pg_history.specs.ByParts.{FileAnswers}
+use Rattle.pg_history.specs.Calls.{of_file}
 use Rattle.pg_calls.specs.declared.file_call.FileCall.{FileCall}
 use Rattle.pg_calls.specs.declared.file_call.FileCall.TheVariants as asked
 use Rattle.pg_calls.specs.Room.{plus, Within, file_uses}
@@ -41,7 +43,7 @@ use Rattle.pg_calls.specs.Asking.{event_of, StaysInPage, IsProperPlain, IsProper
 use Rattle.pg_parts.specs.declared.asking.FileAnswer.{FileAnswer}
 use Rattle.pg_parts.specs.Opened.{numbers_in, told_part, HasSpare}
 use Rattle.pg_parts.specs.Rooms.{part_needs, uses_in}
-use Rattle.pg_parts.specs.Asking.{MayAskPlain, MayAskFile, AsksFile}
+use Rattle.pg_parts.specs.Asking.{MayAskPlain, MayAskFile, AsksFile, signature_in}
 use Rattle.pg_parts.specs.Replays.{file_after, FileWent}
 use Rattle.pg_parts.proofs.ReplyFacts.{plain-answers, blob-answers, range-by, file-agrees}
 use Rattle.pg_parts.proofs.ReplayFacts.{file-goes}
@@ -55,11 +57,16 @@ use Rattle.pg_shared.specs.Cells.{FileCellNow, IsAdmittedBy, IsFileKept, IsFileO
 use Rattle.pg_shared.proofs.ReceiptFacts.{all-lines, in-lines, among-lines, only-stamp}
 use Rattle.pg_shared.proofs.SpineFacts.{entry_of, uses-fit, may-draw, entered, drawn-more, spine-draws, pass-draws, asks-draws, stood-there, told-of-pass, knows-still}
 
--- What a draw on a file leaves: the cell and the pass stand, and the receipt is of what was asked.
-pub record Stands (hash : Hash) (plan : Plan) (number : ℕ) (who : Who) (pass : PassOf Entry) (a : FileCall) (receipt : Receipt Entry) (new : ObjectNow)
+-- the reply is a file's, and with it the file made the step of its event
+abbrev pub ActsBy : Hash → ObjectNow → FileEvent → Option Signature → ObjectNow → Reply → Type 0
+ActsBy hash old e blob new r = IsSomeAnd (of_file r) (λ answer. Acts hash old e blob answer new)
+
+-- What a draw on a file leaves: the cell and the pass stand, and the receipt is of what was asked and of the file's step.
+pub record Stands (hash : Hash) (plan : Plan) (number : ℕ) (who : Who) (pass : PassOf Entry) (old : ObjectNow) (a : FileCall) (receipt : Receipt Entry) (new : ObjectNow)
     (spine : SpineOf Entry) (after : PassOf Entry) : Type 0 where
   pub kept : IsFileOf hash plan (record { object = new; spine = spine })
   pub asks : Asks (shown plan pass) who (place.File number) (event.File (event_of a)) receipt (shown plan after)
+  pub acts : ActsBy hash old (event_of a) (signature_in a) new receipt.entry.reply
   pub is_pass : IsPassOf plan who.worker after
 
 -- the cell of this part is that of the file with this number
@@ -127,6 +134,9 @@ module _ (hash : Hash) (plan : Plan) (object : ObjectNow) (spine : SpineOf Entry
         (receipt : Receipt Entry) (spine' : SpineOf Entry) (pass' : PassOf Entry) (draws : Draws spine met entry receipt spine' pass') where
       line_is : receipt.entry ≡ entry_of who (place.File number) (event.File e) (reply.File answer)
       line_is = entered plan (place.File number) spine kept.spine who pass own met meets (event.File e) room (reply.File answer) entry same receipt spine' pass' draws
+
+      acts_by : (blob : Option Signature) (new : ObjectNow) → Acts hash object e blob answer new → ActsBy hash object e blob new receipt.entry.reply
+      acts_by blob new acts = subst (ActsBy hash object e blob new) (sym (ap (λ (n : Entry). n.reply) line_is)) acts
 
       pub file-passes : IsPassOf plan who.worker pass'
       file-passes = pass-draws plan (place.File number) spine kept.spine who pass own met meets (event.File e) room (reply.File answer) entry same receipt spine' pass' draws
@@ -230,7 +240,7 @@ module _ (hash : Hash) (plan : Plan) (object : ObjectNow) (spine : SpineOf Entry
         (answer : FileAnswer) (new : ObjectNow) (asks : AsksFile hash object a answer new) (new_kept : IsKept hash new)
         (entry : Entry) (same : entry ≡ entry_of who (place.File number) (event.File answer.event) (reply.File answer.reply))
         (receipt : Receipt Entry) (spine' : SpineOf Entry) (pass' : PassOf Entry) (draws : Draws spine met entry receipt spine' pass')
-        → Stands hash plan number who pass a receipt new spine' pass'
+        → Stands hash plan number who pass object a receipt new spine' pass'
     file-stands (asked.Plain e) proper room answer new asks new_kept entry same receipt spine' pass' draws =
         let named = same ∙ ap (λ (v : FileEvent). entry_of who (place.File number) (event.File v) (reply.File answer.reply)) asks.event in
         let replies = plain-answers hash object new e answer.reply (may_plain e proper) asks.acts in
@@ -239,6 +249,7 @@ module _ (hash : Hash) (plan : Plan) (object : ObjectNow) (spine : SpineOf Entry
               (λ part told answers is_now. attaches-none hash object (file_after hash part (drawn_on spine)) e (may_plain e proper)) (no_blob spine');
           asks = file_asks met meets e room answer.reply entry named receipt spine' pass' draws None new asks.acts new_kept replies
               (λ part told answers is_now. attaches-none hash object (file_after hash part (drawn_on spine)) e (may_plain e proper)) (no_blob spine');
+          acts = acts_by met meets e room answer.reply entry named receipt spine' pass' draws None new asks.acts;
           is_pass = file-passes met meets e room answer.reply entry named receipt spine' pass' draws;
         }
     file-stands (asked.Attach slice blob read lookup) proper room answer new asks new_kept entry same receipt spine' pass' draws =
@@ -250,6 +261,7 @@ module _ (hash : Hash) (plan : Plan) (object : ObjectNow) (spine : SpineOf Entry
         record {
           kept = file_kept met meets e room answer.reply entry named receipt spine' pass' draws (Some blob) new asks.acts new_kept replies names admits_it;
           asks = file_asks met meets e room answer.reply entry named receipt spine' pass' draws (Some blob) new asks.acts new_kept replies names admits_it;
+          acts = acts_by met meets e room answer.reply entry named receipt spine' pass' draws (Some blob) new asks.acts;
           is_pass = file-passes met meets e room answer.reply entry named receipt spine' pass' draws;
         }
 
@@ -274,7 +286,8 @@ module _ (hash : Hash) (plan : Plan) (cell : FileCellNow) (object : ObjectNow) (
 
     pub stands-file : (answer : FileAnswer) (new : ObjectNow) → AsksFile hash object a answer new → IsKept hash new
         → (entry : Entry) → ◌≡◌ {A = Entry} entry (entry_of who (place.File number) (event.File answer.event) (reply.File answer.reply))
-        → (receipt : Receipt Entry) (after : SpineOf Entry) (pass' : PassOf Entry) → Draws now met entry receipt after pass' → Stands hash plan number who pass a receipt new after pass'
+        → (receipt : Receipt Entry) (after : SpineOf Entry) (pass' : PassOf Entry) → Draws now met entry receipt after pass' → Stands hash plan number who pass cell.object a receipt new after pass'
     stands-file answer new asks new_kept entry is receipt after pass' draws =
-        file-stands hash plan object spine number kept_here who pass own met meets a proper room answer new asks new_kept entry is receipt after pass'
-        (subst (λ (s : SpineOf Entry). Draws s met entry receipt after pass') same draws)
+        subst (λ (c : FileCellNow). Stands hash plan number who pass c.object a receipt new after pass') view
+        (file-stands hash plan object spine number kept_here who pass own met meets a proper room answer new asks new_kept entry is receipt after pass'
+        (subst (λ (s : SpineOf Entry). Draws s met entry receipt after pass') same draws))

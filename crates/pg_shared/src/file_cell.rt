@@ -1,11 +1,14 @@
 //! A file behind its lock.
 
-ghost use Rattle.std.specs.Prelude.{◌≡◌, ◌<◌, length, IfOk, IsErr, OnErr};
+ghost use Rattle.std.specs.Prelude.{◌≡◌, ◌<◌, length, IsSomeAnd, IfOk, IsErr, OnErr};
 ghost use Rattle.cs_policy.specs.declared.entry.Event.TheVariants as event;
 ghost use Rattle.cs_policy.specs.declared.entry.Place.TheVariants as place;
+ghost use Rattle.pg_object.specs.Acts.{Acts};
+ghost use Rattle.pg_history.specs.Calls.{of_file};
 ghost use Rattle.pg_calls.specs.Parts.{HasRoom, Asks};
 ghost use Rattle.pg_calls.specs.Asking.{event_of, TakesMemory, IsProper};
 ghost use Rattle.pg_parts.specs.Opened.{numbers_in};
+ghost use Rattle.pg_parts.specs.Asking.{signature_in};
 ghost use Rattle.pg_shared.specs.Passes.{shown, IsPassOf};
 ghost use Rattle.pg_shared.specs.Cells.{IsFileOf};
 
@@ -82,6 +85,9 @@ impl<B: Naming, P: Pager, D: Digester> FileCell<B, P, D> {
             (event.File (event_of asked)) }
         ensures asks { IfOk result (λ receipt. Asks (shown B.plan pass.old) who (place.File file)
             (event.File (event_of asked)) receipt (shown B.plan pass.new)) }
+        ensures acts { IfOk result (λ receipt. IsSomeAnd (of_file receipt.entry.reply) (λ answer.
+            Acts D.hash self.old.object (event_of asked) (signature_in asked) answer
+            self.new.object)) }
         ensures unmade { OnErr result (shown B.plan pass.new ≡ shown B.plan pass.old) }
         ensures unasked { OnErr result (self.new ≡ self.old) }
         ensures memory { IsErr result → TakesMemory (event_of asked) }

@@ -32,6 +32,12 @@ returns-clause-asks g c =
     c.meet.new.self c.meet.ensures.spine c.in_ok-answer.answer c.ask_file.new.object c.in_ok-answer.ensures.asks c.in_ok-answer.ensures.kept
     c.file_entry-entry.result c.file_entry-entry.ensures c.draw.result c.draw.new.self c.draw.new.pass c.draw.ensures.drawn).asks
 
+pub returns-clause-acts : goal.returns-clause-acts
+returns-clause-acts g c =
+    (stands-file g.D.Digester.hash g.B.Naming.plan _ _ _ c.self.invariant c.self.view_is c.args.file c.requires.part c.args.who c.args.pass.now c.requires.pass _ c.meet.ensures.pass c.args.asked c.requires.proper c.requires.room
+    c.meet.new.self c.meet.ensures.spine c.in_ok-answer.answer c.ask_file.new.object c.in_ok-answer.ensures.asks c.in_ok-answer.ensures.kept
+    c.file_entry-entry.result c.file_entry-entry.ensures c.draw.result c.draw.new.self c.draw.new.pass c.draw.ensures.drawn).acts
+
 pub returns-clause-pass : goal.returns-clause-pass
 returns-clause-pass g c =
     (stands-file g.D.Digester.hash g.B.Naming.plan _ _ _ c.self.invariant c.self.view_is c.args.file c.requires.part c.args.who c.args.pass.now c.requires.pass _ c.meet.ensures.pass c.args.asked c.requires.proper c.requires.room
