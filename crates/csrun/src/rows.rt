@@ -1,9 +1,9 @@
 //! Scenes and their journals. The digests and cdhashes were made with Python's hashlib.
 
-use pg_bytes::Status;
+use pg_bytes::{Status, Which};
 
 /// What a scene shows, the scene, and its journal.
-pub const SCENES: [(&str, &str, &str); 32] = [
+pub const SCENES: [(&str, &str, &str); 33] = [
     (
         "a user with a trust cache",
         "\
@@ -223,6 +223,47 @@ fault p0 0x12000 x
 events 11
 calls 6
 given 0
+denied 1
+",
+    ),
+    (
+        "a changed page, of a process without flags and of one that enforces",
+        "\
+scene 1
+raw A 12288 186
+process none
+process enforce
+admit dd2875b1ed5de5cda3421fc7fe4869ab72113510
+script
+spawn p0
+map p0 0x10000 f0 0 3 r-x private
+attach f0 0
+write f0 4096 ff
+fault p0 0x11000 x
+spawn p1
+map p1 0x20000 f0 0 3 r-x private
+fault p1 0x21000 x
+",
+        "\
+0 0.0 p0 start -> began 00000001
+1 0.1 p0 insert 0x10000 f0 0 3 r-x private -> inserted 0
+2 0.1 f0 addregion 0 p0 0 3 r-x private @1 -> added
+3 0.2 f0 readsig 0 -> read 186
+4 0.2 t lookup dd2875b1ed5de5cda3421fc7fe4869ab72113510 -> listed 0 0
+5 0.2 f0 addblob 0 dd2875b1ed5de5cda3421fc7fe4869ab72113510 @3 @4 -> attached 0
+6 0.3 f0 write 4096 ff -> written 1
+7 0.4 p0 resolve 0x11000 x -> region 0 f0 1 00000001
+8 0.4 f0 enter 0 1 x 00000001 @7 -> given violation mismatch 1 1 b3e4aef8662c0b68ddfdb42424ddaadc68ef96a20b0cb29139b02b4f74fb92ca 725bcd6c66d02acf6ebeab9c92410e010ea22e336876256aaf05a211f4ce1902
+9 0.4 p0 clearvalid -> cleared 00000000
+10 0.5 p1 start -> began 00001001
+11 0.6 p1 insert 0x20000 f0 0 3 r-x private -> inserted 4096
+12 0.6 f0 addregion 4096 p1 0 3 r-x private @11 -> added
+13 0.7 p1 resolve 0x21000 x -> region 4096 f0 1 00001001
+14 0.7 f0 enter 4096 1 x 00001001 @13 -> denied mismatch 1 1 b3e4aef8662c0b68ddfdb42424ddaadc68ef96a20b0cb29139b02b4f74fb92ca 725bcd6c66d02acf6ebeab9c92410e010ea22e336876256aaf05a211f4ce1902
+15 0.7 p1 punish -> spare
+events 16
+calls 8
+given 1
 denied 1
 ",
     ),
@@ -996,8 +1037,8 @@ denied 1
     ),
 ];
 
-/// What ends a run early, the scene, the status and the line.
-pub const EARLY: [(&str, &str, Status, &str); 5] = [
+/// What ends a run early, the scene, how many files are read, the status and the line.
+pub const EARLY: [(&str, &str, u32, Status, &str); 8] = [
     (
         "a line with too few words",
         "\
@@ -1009,6 +1050,7 @@ spawn p0
 map p0 0x10000 f0 0 3 r-x private
 fault p0 0x10000
 ",
+        1,
         Status::SceneBad { line: 7, kind: 5 },
         "csrun: line 7: words\n",
     ),
@@ -1018,12 +1060,14 @@ fault p0 0x10000
 scene 1
 pagesize 8192
 ",
+        1,
         Status::SceneBad { line: 2, kind: 8 },
         "csrun: line 2: range\n",
     ),
     (
         "no scene",
         "",
+        1,
         Status::SceneBad { line: 1, kind: 2 },
         "csrun: line 1: firstline\n",
     ),
@@ -1032,7 +1076,9 @@ pagesize 8192
         "\
 scene 1
 static CUT
+file B
 ",
+        2,
         Status::TrustBad {
             item: 1,
             number: 3,
@@ -1047,8 +1093,54 @@ scene 1
 file B
 file GONE
 ",
+        3,
         Status::FileFault { item: 2 },
         "csrun: cannot read item 2\n",
+    ),
+    (
+        "the first of three files that is missing",
+        "\
+scene 1
+raw GONE 0 0
+file B
+cache T
+",
+        2,
+        Status::FileFault { item: 1 },
+        "csrun: cannot read item 1\n",
+    ),
+    (
+        "a static trust cache that is missing",
+        "\
+scene 1
+static GONE
+static CUT
+",
+        2,
+        Status::FileFault { item: 1 },
+        "csrun: cannot read item 1\n",
+    ),
+    (
+        "nine scripts behind a file",
+        "\
+scene 1
+file B
+script
+script
+script
+script
+script
+script
+script
+script
+script
+",
+        1,
+        Status::Limit {
+            which: Which::Workers,
+            number: 8,
+        },
+        "csrun: limit workers 8\n",
     ),
 ];
 

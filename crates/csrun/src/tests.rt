@@ -1,9 +1,11 @@
 //! Whole runs over files in memory.
 
+ghost use Rattle.std.specs.Prelude.{Some};
+
 use crate::rows::{CACHES, DIRECTORY, EARLY, LARGE_PAGES, SCENES, SMALL_PAGES};
 use cs_samples::{put, put_be32, thin_arm64};
 use pg_bytes::{Status, Which};
-use pg_io::{MemFiles, MemSink, OpenGate};
+use pg_io::{Files, MemFiles, MemSink, OpenGate, ReadFail};
 use scene_run::csrun_solo;
 use scene_threads::csrun_main;
 use std::alloc::Global;
@@ -11,11 +13,56 @@ use std::sync::Wait;
 use std::test::Fail;
 use std::thread::Threads;
 
-/// How a run ended, and what it wrote.
+/// How a run ended, what it wrote, how many files it read, and the most bytes that it asked of one.
 #[derive(Drop)]
 struct Ended {
     status: Status,
     text: Vec<u8>,
+    reads: u32,
+    most: u64,
+}
+
+/// Files in memory, how many reads of them were made, and the most bytes that one of these asked for.
+#[derive(Drop)]
+struct Counted {
+    files: MemFiles,
+    reads: u32,
+    most: u64,
+}
+
+impl Files for Counted {
+    ghost tells = { λ counted. Some counted.files.told };
+
+    ghost faults = { λ counted. counted.files.faults };
+
+    fn read(&mut self, alloc: Global, name: &str, most: u64) -> Result<Vec<u8>, ReadFail> {
+        self.reads = self.reads.saturating_add(1);
+        self.most = self.most.max(most);
+        self.files.read(alloc, name, most)
+    }
+}
+
+impl Counted {
+    /// These files, before the first read.
+    fn new(files: MemFiles) -> Counted {
+        Counted {
+            files,
+            reads: 0,
+            most: 0,
+        }
+    }
+}
+
+impl Ended {
+    /// How a run ended that came to this status over these files.
+    fn new(alloc: Global, status: Status, files: &Counted, out: &MemSink) -> Result<Ended, Fail> {
+        Ok(Ended {
+            status,
+            text: Vec::from_slice(alloc, out.bytes())?,
+            reads: files.reads,
+            most: files.most,
+        })
+    }
 }
 
 /// The reads that fail, how many bytes a write takes at most, and the writes that fail.
@@ -108,7 +155,7 @@ fn contents(alloc: Global) -> Result<Vec<Vec<u8>>, Fail> {
 }
 
 /// The sample files, with the scene under the name `s`.
-fn files(alloc: Global, scene: &str, outside: Outside) -> Result<MemFiles, Fail> {
+fn files(alloc: Global, scene: &str, outside: Outside) -> Result<Counted, Fail> {
     let mut names = names(alloc)?;
     let mut contents = contents(alloc)?;
     names.push(String::from_str(alloc, "s")?)?;
@@ -116,7 +163,8 @@ fn files(alloc: Global, scene: &str, outside: Outside) -> Result<MemFiles, Fail>
     if names.len() != contents.len() {
         return Err(Fail::new("a sample file has no name, or a name no file"));
     }
-    Ok(MemFiles::new(names, contents, Vec::from_slice(alloc, outside.reads)?))
+    let fails = Vec::from_slice(alloc, outside.reads)?;
+    Ok(Counted::new(MemFiles::new(names, contents, fails)))
 }
 
 /// Where the output goes.
@@ -140,8 +188,7 @@ fn run_words<R: Threads + Wait + Sync + AllocGlobal>(
     let mut files = files(alloc, scene, outside)?;
     let mut out = sink(alloc, outside)?;
     let status = csrun_main(rt, alloc, &given, &mut files, &mut out, &OpenGate);
-    let text = Vec::from_slice(alloc, out.bytes())?;
-    Ok(Ended { status, text })
+    Ended::new(alloc, status, &files, &out)
 }
 
 /// Runs `solo` and the scene.
@@ -152,8 +199,7 @@ fn run_solo(alloc: Global, scene: &str, outside: Outside) -> Result<Ended, Fail>
     let mut files = files(alloc, scene, outside)?;
     let mut out = sink(alloc, outside)?;
     let status = csrun_solo(alloc, &given, &mut files, &mut out);
-    let text = Vec::from_slice(alloc, out.bytes())?;
-    Ok(Ended { status, text })
+    Ended::new(alloc, status, &files, &out)
 }
 
 /// Runs a scene.
@@ -177,10 +223,32 @@ fn worked_scenes(rt: HostRuntime) -> Result<(), Fail> {
 
 #[test]
 fn early_ends(rt: HostRuntime) -> Result<(), Fail> {
-    for (what, scene, status, line) in EARLY {
+    for (what, scene, reads, status, line) in EARLY {
         let ended = run(&rt, scene)?;
         assert_eq!(rt; ended.status, status, "{what}");
         assert_eq!(rt; ended.text.as_slice(), line.as_bytes(), "{what}");
+        assert_eq!(rt; ended.reads, reads, "{what}");
+    }
+    Ok(())
+}
+
+/// Scenes of one item or none, how many files are read, and the most bytes that one of these reads asks for: one more than
+/// such a file may have, so that a longer one is seen.
+const ASKED: [(&str, u32, u64); 5] = [
+    ("scene 1\n", 1, 1_048_577),
+    ("scene 1\nfile B\n", 2, 67_108_865),
+    ("scene 1\nraw A 12288 186\n", 2, 67_108_865),
+    ("scene 1\nstatic T\n", 2, 1_572_889),
+    ("scene 1\ncache T\n", 2, 1_572_889),
+];
+
+#[test]
+fn reads_ask_for_one_byte_more_than_the_limits(rt: HostRuntime) -> Result<(), Fail> {
+    for (scene, reads, most) in ASKED {
+        let ended = run(&rt, scene)?;
+        assert_eq!(rt; ended.status, Status::Done, "{scene}");
+        assert_eq!(rt; ended.reads, reads, "{scene}");
+        assert_eq!(rt; ended.most, most, "{scene}");
     }
     Ok(())
 }
@@ -330,33 +398,34 @@ fn pager_calls_that_fail_in_turn(rt: HostRuntime) -> Result<(), Fail> {
     Ok(())
 }
 
-/// Runs a scene over one file of so many bytes.
+/// Runs a scene over one file of so many bytes, and one behind it.
 fn run_large<R: Threads + Wait + Sync + AllocGlobal>(rt: &R, count: usize) -> Result<Ended, Fail> {
     let alloc = rt.alloc();
     let names = vec![in alloc;
         String::from_str(alloc, "large")?,
         String::from_str(alloc, "s")?,
     ]?;
-    let scene = Vec::from_slice(alloc, b"scene 1\nraw large 0 0\n")?;
+    let scene = Vec::from_slice(alloc, b"scene 1\nraw large 0 0\ncache s\n")?;
     let contents = vec![in alloc; vec![in alloc; 0; count]?, scene]?;
     let given = vec![in alloc; String::from_str(alloc, "s")?]?;
-    let mut files = MemFiles::new(names, contents, Vec::new(alloc));
+    let mut files = Counted::new(MemFiles::new(names, contents, Vec::new(alloc)));
     let mut out = sink(alloc, SOUND)?;
     let status = csrun_main(rt, alloc, &given, &mut files, &mut out, &OpenGate);
-    let text = Vec::from_slice(alloc, out.bytes())?;
-    Ok(Ended { status, text })
+    Ended::new(alloc, status, &files, &out)
 }
 
 #[test]
 fn files_of_the_most_bytes(rt: HostRuntime) -> Result<(), Fail> {
     let whole = run_large(&rt, 67_108_864)?;
     assert_eq!(rt; whole.status, Status::Done);
+    assert_eq!(rt; whole.reads, 3);
     let longer = run_large(&rt, 67_108_865)?;
     let limit = Status::Limit {
         which: Which::FileBytes,
         number: 67_108_864,
     };
     assert_eq!(rt; longer.status, limit);
+    assert_eq!(rt; longer.reads, 2);
     assert_eq!(rt;
         longer.text.as_slice(),
         b"csrun: limit filebytes 67108864\n".as_slice()

@@ -3,58 +3,56 @@
 use crate::tests::{FAULT, run_words};
 use pg_bytes::Status;
 use pg_io::{Gate, Moment};
+use std::alloc::Global;
 use std::sync::atomic::{AtomicBool, AtomicU32, Ordering};
 use std::test::Fail;
 use std::thread;
 use std::time::{Clock, Duration};
 
-/// Four workers, each of whom faults a page of a file of its own for execution.
-const FOUR_FILES: &str = "\
-scene 1
-raw A 12288 186
-raw A 12288 186
-raw A 12288 186
-raw A 12288 186
-process enforce
-process enforce
-process enforce
-process enforce
-admit dd2875b1ed5de5cda3421fc7fe4869ab72113510
-script
-spawn p0
-map p0 0x10000 f0 0 3 r-x private
-attach f0 0
-fault p0 0x10000 x
-script
-spawn p1
-map p1 0x10000 f1 0 3 r-x private
-attach f1 0
-fault p1 0x10000 x
-script
-spawn p2
-map p2 0x10000 f2 0 3 r-x private
-attach f2 0
-fault p2 0x10000 x
-script
-spawn p3
-map p3 0x10000 f3 0 3 r-x private
-attach f3 0
-fault p3 0x10000 x
-";
+/// Eight workers, each of whom faults a page of a file of its own for execution.
+fn eight_files(alloc: Global) -> Result<String, Fail> {
+    let mut scene = String::from_str(alloc, "scene 1\n")?;
+    for _ in 0..8 {
+        scene.push_str("raw A 12288 186\nprocess enforce\n")?;
+    }
+    scene.push_str("admit dd2875b1ed5de5cda3421fc7fe4869ab72113510\n")?;
+    for n in 0..8 {
+        let script = format!(in alloc;
+            "script\nspawn p{n}\nmap p{n} 0x10000 f{n} 0 3 r-x private\nattach f{n} 0\nfault p{n} 0x10000 x\n"
+        )?;
+        scene.push_str(&script)?;
+    }
+    Ok(scene)
+}
 
-/// Holds each worker inside its fault until all four are inside.
+/// Holds each worker at one moment of one of its calls until so many workers are there.
 #[derive(Drop)]
 struct Meeting<'a, R> {
     rt: &'a R,
-    inside: AtomicU32,
+    workers: u32,
+    call: u32,
+    moment: Moment,
+    there: AtomicU32,
     met: AtomicU32,
 }
 
-impl<R: Clock> Meeting<'_, R> {
-    /// Waits until four are inside, for 1,000,000 turns at most, and answers whether they were.
-    fn are_all_inside(&self) -> bool {
+impl<'a, R: Clock> Meeting<'a, R> {
+    /// So many workers are to meet at this moment of the call.
+    fn new(rt: &'a R, workers: u32, call: u32, moment: Moment) -> Meeting<'a, R> {
+        Meeting {
+            rt,
+            workers,
+            call,
+            moment,
+            there: AtomicU32::new(0),
+            met: AtomicU32::new(0),
+        }
+    }
+
+    /// Waits until all are there, for 1,000,000 turns at most, and answers whether they were.
+    fn are_all_there(&self) -> bool {
         for turn in 0..1_000_000 {
-            if self.inside.load(Ordering::SeqCst) == 4 {
+            if self.there.load(Ordering::SeqCst) == self.workers {
                 return true;
             }
             if turn % 1000 == 999 {
@@ -67,27 +65,34 @@ impl<R: Clock> Meeting<'_, R> {
 
 impl<R: Clock> Gate for Meeting<'_, R> {
     fn pass(&self, _worker: u32, call: u32, moment: Moment) {
-        if call != FAULT || moment != Moment::Inside {
+        if call != self.call || moment != self.moment {
             return;
         }
-        self.inside.fetch_add(1, Ordering::SeqCst);
-        if self.are_all_inside() {
+        self.there.fetch_add(1, Ordering::SeqCst);
+        if self.are_all_there() {
             self.met.fetch_add(1, Ordering::SeqCst);
         }
     }
 }
 
 #[test]
-fn faults_on_four_files_at_once(rt: HostRuntime) -> Result<(), Fail> {
-    let gate = Meeting {
-        rt: &rt,
-        inside: AtomicU32::new(0),
-        met: AtomicU32::new(0),
-    };
-    let (status, text) = run_words(&rt, &["s"], FOUR_FILES, &gate)?;
+fn faults_on_eight_files_at_once(rt: HostRuntime) -> Result<(), Fail> {
+    let scene = eight_files(rt.alloc())?;
+    let gate = Meeting::new(&rt, 8, FAULT, Moment::Inside);
+    let (status, text) = run_words(&rt, &["s"], &scene, &gate)?;
+    assert_eq!(rt; status, Status::Done);
+    assert_eq!(rt; gate.met.load(Ordering::SeqCst), 8);
+    assert!(rt; text.ends_with("calls 32\ngiven 8\ndenied 0\n"));
+    Ok(())
+}
+
+#[test]
+fn made_scripts_at_once(rt: HostRuntime) -> Result<(), Fail> {
+    let gate = Meeting::new(&rt, 4, 0, Moment::Answered);
+    let (status, text) = run_words(&rt, &["gen", "1"], "", &gate)?;
     assert_eq!(rt; status, Status::Done);
     assert_eq!(rt; gate.met.load(Ordering::SeqCst), 4);
-    assert!(rt; text.ends_with("calls 16\ngiven 4\ndenied 0\n"));
+    assert!(rt; text.ends_with("calls 4012\ngiven 1441\ndenied 1570\n"));
     Ok(())
 }
 
