@@ -7,7 +7,8 @@ calls that a whole run makes. Each time the status is to be 8, and nothing is to
 in its place and the program asked for another one, the whole journal is to be there. Scenes without words: a signed program
 under a trust cache, and a fat file, by `csrun solo`; and by `csrun` a scene of two scripts, each on a file and a process of its
 own, so that either worker may be the one who is refused: the other plays its script to the end, and the program ends by itself.
-Prints a row for each scene.
+There one call more is for the thread itself: where it is refused no thread is made, the scripts are played by the one that there
+is, and the whole journal is to be there. Prints a row for each scene.
 """
 import os
 import shutil
@@ -132,10 +133,12 @@ def main() -> int:
             ends = [run(program, shim, words, number) for number in range(1, calls + 1)]
             nothing = sum(end[:2] == (NO_MEMORY, b"") for end in ends)
             again = sum(end == (0, text, calls + 1) for end in ends)
-            wrong += calls - nothing - again
+            alone = sum(end == (0, text, calls) for end in ends) if words[0] != "solo" else 0
+            others = calls - nothing - again - alone
+            wrong += others
             print(
                 f"{name}: {calls} calls for memory, each refused in turn: {nothing} ended with status 8 and wrote nothing,"
-                f" {again} asked again, {calls - nothing - again} ended otherwise"
+                f" {again} asked again, {alone} made no thread, {others} ended otherwise"
             )
     return 1 if wrong else 0
 
