@@ -217,6 +217,6 @@ pub fn files(alloc: Global, word: &[u8]) -> Result<u16, Unread>
         return Ok(0);
     }
     let names = parts_of(alloc, word, b',')?;
-    let files = said(bits(16, 0, &names))?;
+    let files = said(bits(16, 0, names.as_slice()))?;
     Ok(files as u16)
 }

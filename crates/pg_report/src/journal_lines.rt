@@ -63,7 +63,7 @@ fn line_of(alloc: Global, due: u64, text: &[u8]) -> Result<Line, Unread>
     ensures { Gives result (line_of due text.now) }
 {
     let words = words_of(alloc, text)?;
-    line_of_words(alloc, due, &words)
+    line_of_words(alloc, due, words.as_slice())
 }
 
 /// How many accesses were given.

@@ -1,3 +1,4 @@
+pub mod CollectFacts
 pub mod WordFacts
 pub mod NumeralFacts
 pub mod HexFacts

@@ -18,7 +18,7 @@ pub use columns::{
     add_share, add_word, put, put_hex, put_number,
 };
 pub use digits::{byte, bytes_of, cdhash, count_of, flags_bits, hex_digits, hex_word};
-pub use lines::{is_graphic, is_plain, is_text, parts_of, words_of};
+pub use lines::{WordParts, Words, is_graphic, is_plain, is_text, parts_of, words_of};
 pub use names::{access, name, prot, share, short_name};
 pub use numbers::{address, low_address, number, short_number, tiny_number};
 pub use piece::{DataWord, data, short_data};

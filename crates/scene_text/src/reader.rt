@@ -95,5 +95,5 @@ pub fn line_of(alloc: Global, known: &Known, text: &[u8]) -> Result<Line, Refuse
         return Err(Refused::Kind(NOT_TEXT));
     }
     let words = words_of(alloc, text)?;
-    line_of_words(alloc, known, &words)
+    line_of_words(alloc, known, words.as_slice())
 }
