@@ -15,4 +15,5 @@ pub mod Placing
 pub mod Openings
 pub mod Gathering
 pub mod Closings
+pub mod Merging
 pub mod Trials

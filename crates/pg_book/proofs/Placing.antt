@@ -1,10 +1,17 @@
 -- Lists whose elements have facts by their places, and the rows of the needs.
-use Rattle.std.proofs.Common.{◌≡◌, ℕ, zero, suc, ◌+◌, ◌<◌, ◌≤◌, List, [], ◌∷◌, ◌++◌, length, get_or, drop, All, vec_len, vec_capacity, length-append, le_trans, refl, sym, ap, ◌∙◌, subst, arith}
+use Rattle.std.proofs.Common.{◌≡◌, ℕ, zero, suc, ◌+◌, ◌<◌, ◌≤◌, List, [], ◌∷◌, ◌++◌, length, get_or, take, drop, All, vec_len, vec_capacity, length-append, le_trans, refl, sym, ap, ◌∙◌, subst, arith}
 use Rattle.std.specs.Global.{Vec}
 use Rattle.std.proofs.lemmas.List.Elements.{All-nil, All-cons}
 use Rattle.pg_book.specs.declared.needs.Needs.{Needs}
 use Rattle.pg_book.specs.Needs.{rows_of, part_entries, nothing_needed}
 use Rattle.pg_book.specs.Opening.{EachFrom}
+
+-- the first list of two, by its length
+pub take_front : {A : Type 0} (n : ℕ) (xs ys : List A) → n ≡ length xs → take n (xs ++ ys) ≡ xs
+take_front zero [] ys e = refl
+take_front zero (x ∷ xs) ys e = absurd (omega arith)
+take_front (suc n) [] ys e = absurd (omega arith)
+take_front (suc n) (x ∷ xs) ys e = ap (λ l. x ∷ l) (take_front n xs ys (omega arith))
 
 module _ {A : Type 0} where
   pub each_push : (P : ℕ → A → Type 0) (n k : ℕ) (xs : List A) (x : A) → EachFrom P n xs → n + length xs ≡ k → P k x → EachFrom P n (xs ++ x ∷ [])

@@ -14,4 +14,5 @@ pub mod Prepared
 pub mod Fails
 pub mod Gathering
 pub mod Closing
+pub mod Merging
 pub mod Trials

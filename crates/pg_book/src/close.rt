@@ -1,19 +1,22 @@
 // How a book is closed: all seats are joined into one, and the entries are put in the order of their stamps.
-ghost use Rattle.std.specs.Prelude.{◌≡◌, ◌+◌, ◌≤◌, ◌∷◌, ◌++◌, [], false, length, map, None, vec_len, vec_capacity, IfSome, IfOk, IfErr, IsPermutation};
+ghost use Rattle.std.specs.Prelude.{◌≡◌, ◌+◌, ◌<◌, ◌≤◌, ◌∷◌, ◌++◌, [], false, length, map, None, vec_len, vec_capacity, IfOk, IfErr, IsPermutation, flat_map};
 ghost use Rattle.pg_book.specs.Kinds.{joined};
 ghost use Rattle.pg_book.specs.Steps.{IsSeatOf, HasLooked};
 ghost use Rattle.pg_book.specs.Models.{IsSpineAt, IsPassAt};
 ghost use Rattle.pg_book.specs.Gathering.{TakesSpine, TakesPass, Gathered, spine_views, HasParts, TakesPasses};
+ghost use Rattle.std.specs.VecDeque.{deque_items};
 ghost use Rattle.pg_book.specs.Closing.{stamped, flat, AreSpinesOf, ArePassesOf, IsHistory};
 ghost use Rattle.std.specs.List.Sorted.{IsNonDecreasingBy};
 ghost use Rattle.pg_book.specs.Opening.{EachFrom};
 
 use crate::book::Book;
+use crate::merge::{Space, merged, space_for};
 use crate::pass::Pass;
 use crate::receipt::Stamped;
 use crate::rule::{BookSeat, BookShared};
 use crate::spine::Spine;
 use crate::steps::{look, take_in};
+use std::collections::VecDeque;
 
 /// There was no memory to close the book. All comes back as it was handed in.
 #[derive(Drop)]
@@ -24,23 +27,6 @@ pub struct CloseRefused<E> {
     pub spines: Vec<Spine<E>>,
     /// Its passes, in the order in which they were handed in.
     pub passes: Vec<Pass<E>>,
-}
-
-// How many entries the spines have, where the number fits.
-fn count_of<E: Drop>(spines: &[Spine<E>]) -> Option<usize>
-    ensures { IfSome result (λ n. n ≡ length (flat spines.now)) }
-{
-    let mut count: usize = 0;
-    for spine in spines {
-        count = count.checked_add(entries_on(spine))?;
-    }
-    Some(count)
-}
-
-fn entries_on<E: Drop>(spine: &Spine<E>) -> usize
-    ensures { result ≡ length (flat (spine.now ∷ [])) }
-{
-    spine.entries.len()
 }
 
 // The seat takes in another, and looks.
@@ -56,33 +42,31 @@ fn absorb<E>(shared: &BookShared<E>, seat: &mut BookSeat<E>, other: BookSeat<E>)
     look(shared, seat);
 }
 
-// Takes in the spine's seat, and its entries.
+// Takes in the spine's seat, and keeps its entries as one more list. None of them is moved.
 fn take_spine<E: Drop>(
     shared: &BookShared<E>,
     seat: &mut BookSeat<E>,
     spine: Spine<E>,
-    entries: &mut Vec<Stamped<E>>,
+    lists: &mut Vec<VecDeque<Stamped<E>>>,
 )
     requires seat { IsSeatOf shared.now.table_id seat.old.table_id × (seat.old.me.1 ≡ []) }
     requires spine { spine.book ≡ seat.old.table_id }
-    requires room { vec_len entries.old + length (flat (spine ∷ [])) ≤ vec_capacity entries.old }
+    requires room { vec_len lists.old < vec_capacity lists.old }
     requires live { seat.old.me.0.spent ≡ false }
     ensures same { (seat.new.table_id ≡ seat.old.table_id) × (seat.new.me.1 ≡ []) }
     ensures view { TakesSpine spine seat.old.me.0 seat.new.me.0 }
-    ensures items { entries.new.items ≡ entries.old.items ++ map stamped (flat (spine ∷ [])) }
-    ensures count { vec_len entries.new ≡ vec_len entries.old + length (flat (spine ∷ [])) }
-    ensures capacity { vec_capacity entries.old ≤ vec_capacity entries.new }
+    ensures items { flat_map deque_items lists.new.items ≡ flat_map deque_items lists.old.items ++ map stamped (flat (spine ∷ [])) }
+    ensures count { vec_len lists.new ≡ vec_len lists.old + 1 }
+    ensures capacity { vec_capacity lists.new ≡ vec_capacity lists.old }
 {
     let Spine {
         table: _,
         seat: other,
         part: _,
-        entries: mut others,
+        entries,
     } = spine;
     absorb(shared, seat, other);
-    let Ok(()) = entries.append(&mut others) else {
-        unreachable!()
-    };
+    lists.push_reserved(VecDeque::from(entries));
 }
 
 fn take_pass<E: Drop>(shared: &BookShared<E>, seat: &mut BookSeat<E>, pass: Pass<E>)
@@ -104,18 +88,18 @@ fn take_spines<E: Drop>(
     shared: &BookShared<E>,
     seat: &mut BookSeat<E>,
     spines: Vec<Spine<E>>,
-    entries: &mut Vec<Stamped<E>>,
+    lists: &mut Vec<VecDeque<Stamped<E>>>,
 )
     requires seat { IsSeatOf shared.now.table_id seat.old.table_id × (seat.old.me.1 ≡ []) }
     requires view { Gathered seat.old.me.0.needs [] seat.old.me.0 }
     requires spines { EachFrom (IsSpineAt seat.old.table_id) 0 spines.items }
-    requires room { vec_len entries.old + length (flat spines.items) ≤ vec_capacity entries.old }
+    requires room { vec_len lists.old + length spines.items ≤ vec_capacity lists.old }
     ensures same { (seat.new.table_id ≡ seat.old.table_id) × (seat.new.me.1 ≡ []) }
     ensures view { Gathered seat.old.me.0.needs (spine_views spines.items) seat.new.me.0 }
-    ensures items { entries.new.items ≡ entries.old.items ++ map stamped (flat spines.items) }
+    ensures items { flat_map deque_items lists.new.items ≡ flat_map deque_items lists.old.items ++ map stamped (flat spines.items) }
 {
     for spine in spines {
-        take_spine(shared, seat, spine, entries);
+        take_spine(shared, seat, spine, lists);
     }
 }
 
@@ -132,42 +116,12 @@ fn take_passes<E: Drop>(shared: &BookShared<E>, seat: &mut BookSeat<E>, passes: 
     }
 }
 
-// Puts the entry that stands here at the place that is its stamp. Where it stands there, or its stamp is no place, the place
-// behind this one is answered, and else this one.
-fn put_one<E: Drop>(entries: &mut [Stamped<E>], here: usize) -> usize
-    ensures same { IsPermutation entries.old entries.new }
-    ensures len { length entries.new ≡ length entries.old }
-{
-    let count = entries.len();
-    if here >= count {
-        return here;
-    }
-    let place = entries[here].stamp;
-    if place == here as u64 || place >= count as u64 {
-        return here + 1;
-    }
-    entries.swap(here, place as usize);
-    here
-}
-
-// Puts each entry at the place that is its stamp, as far as stamps are places: each turn passes one by or puts one there.
-fn put_at_stamps<E: Drop>(entries: &mut [Stamped<E>])
-    ensures same { IsPermutation entries.old entries.new }
-    ensures len { length entries.new ≡ length entries.old }
-{
-    let mut here = 0;
-    for _ in 0..entries.len().saturating_mul(2) {
-        here = put_one(entries, here);
-    }
-}
-
-// Puts entries in the order of their stamps. Where stamps are places, the sort finds them in order and moves none.
+// Puts entries in the order of their stamps. Where they stand in it, the sort moves none.
 fn sort_by_stamps<E: Drop>(entries: &mut [Stamped<E>])
     ensures same { IsPermutation entries.old entries.new }
     ensures len { length entries.new ≡ length entries.old }
     ensures sorted { IsNonDecreasingBy (λ e. e.stamp) entries.new }
 {
-    put_at_stamps(entries);
     entries.sort_unstable_by_key(|entry| entry.stamp);
 }
 
@@ -201,28 +155,26 @@ impl<E: Drop> Book<E> {
         ensures closed { IfOk result (λ v. IsHistory spines.items passes.items v.items) }
         ensures refused { IfErr result (λ r. (r.book ≡ self) × (r.spines ≡ spines) × (r.passes ≡ passes)) }
     {
-        let Some(count) = count_of(spines.as_slice()) else {
+        let Some(space) = space_for(self.alloc, spines.as_slice()) else {
             return Err(CloseRefused {
                 book: self,
                 spines,
                 passes,
             });
         };
-        let Ok(mut entries) = Vec::with_capacity(self.alloc, count) else {
-            return Err(CloseRefused {
-                book: self,
-                spines,
-                passes,
-            });
-        };
+        let Space {
+            entries,
+            order,
+            mut lists,
+        } = space;
         let Book {
             table,
             mut seat,
             alloc: _,
         } = self;
-        take_spines(&table.shared, &mut seat, spines, &mut entries);
+        take_spines(&table.shared, &mut seat, spines, &mut lists);
         take_passes(&table.shared, &mut seat, passes);
         look(&table.shared, &mut seat);
-        Ok(in_order(entries))
+        Ok(in_order(merged(lists, order, entries)))
     }
 }

@@ -7,6 +7,7 @@
 mod book;
 mod close;
 mod meeting;
+mod merge;
 mod needs;
 mod open;
 mod pass;

@@ -1,13 +1,8 @@
-use Rattle.std.proofs.Common.{◌≡◌, ℕ, suc, zero, List, [], ◌∷◌, ◌++◌, length, take, drop, sym, ap, ◌∙◌, subst, arith, refl}
+use Rattle.std.proofs.Common.{◌≡◌, length, drop, sym, ◌∙◌, subst}
 use Rattle.std.specs.List.Sorted.{IsNonDecreasingBy}
 use Rattle.pg_book.specs.declared.receipt.Stamped.{Stamped}
+use Rattle.pg_book.proofs.Placing.{take_front}
 use Rattle.pg_book.proofs.close.in_order.Goals as goal
-
-take_front : {A : Type 0} (n : ℕ) (xs ys : List A) → n ≡ length xs → take n (xs ++ ys) ≡ xs
-take_front zero [] ys e = refl
-take_front zero (x ∷ xs) ys e = absurd (omega arith)
-take_front (suc n) [] ys e = absurd (omega arith)
-take_front (suc n) (x ∷ xs) ys e = ap (λ l. x ∷ l) (take_front n xs ys (omega arith))
 
 pub returns-clause-sorted : goal.returns-clause-sorted
 returns-clause-sorted g c =

@@ -3,6 +3,7 @@ use Rattle.std.specs.Vec.Iter.{into_iter_items}
 use Rattle.pg_book.specs.Models.{SpineOf, IsSpineAt}
 use Rattle.pg_book.specs.Opening.{EachFrom}
 use Rattle.pg_book.specs.Closing.{stamped, flat}
+use Rattle.std.proofs.Common.{deque_items, flat_map}
 use Rattle.pg_book.proofs.Placing.{each_at}
 use Rattle.pg_book.proofs.Gathering.{map_join, flat_join, gathers_spine}
 use Rattle.pg_book.proofs.close.take_spines.Goals as goal
@@ -24,14 +25,12 @@ take_spine-requires-clause-room g c =
     let x = c.in-Some.spine in
     let steps : into_iter_items at.spine-iterator ≡ x ∷ into_iter_items c.next.new.self = c.in-Some.ensures.steps.0 in
     let all : c.args.spines.items ≡ at.yielded ++ x ∷ into_iter_items c.next.new.self = sym v.0 ∙ ap (λ l. at.yielded ++ l) steps in
-    let whole : flat c.args.spines.items ≡ flat at.yielded ++ (flat (x ∷ []) ++ flat (into_iter_items c.next.new.self)) = ap flat all ∙ flat_join at.yielded (x ∷ into_iter_items c.next.new.self) ∙ ap (λ l. flat at.yielded ++ l) (flat_join (x ∷ []) (into_iter_items c.next.new.self)) in
-    let a = ap length whole in
-    let b = length-append (flat at.yielded) (flat (x ∷ []) ++ flat (into_iter_items c.next.new.self)) in
-    let d = length-append (flat (x ∷ [])) (flat (into_iter_items c.next.new.self)) in
-    let e = v.6 in
-    let f = v.7 in
+    let a = ap length all in
+    let b = length-append at.yielded (x ∷ into_iter_items c.next.new.self) in
+    let d = v.6 in
+    let e = v.7 in
     let r = c.requires.room in
-    omega (arith, a, b, d, e, f, r)
+    omega (arith, a, b, d, e, r)
 
 pub loop-spine-preserved : goal.loop-spine-preserved
 loop-spine-preserved g c =
@@ -51,7 +50,7 @@ loop-spine-preserved g c =
       t.same.0 ∙ v.2,
       t.same.1,
       gathers_spine c.args.seat.now.me.0.needs at.yielded x at.seat.me.0 c.take_spine.new.seat.me.0 v.4 (omega (arith, here.is_part)) t.view,
-      t.items ∙ ap (λ l. l ++ map stamped (flat (x ∷ []))) v.5 ∙ append_assoc c.args.entries.now.items (map stamped (flat at.yielded)) (map stamped (flat (x ∷ []))) ∙ ap (λ l. c.args.entries.now.items ++ l) (sym (map_join stamped (flat at.yielded) (flat (x ∷ [])))) ∙ ap (λ l. c.args.entries.now.items ++ map stamped l) (sym joined),
-      (let a = t.count in let b = v.6 in let d = ap length joined in let e = length-append (flat at.yielded) (flat (x ∷ [])) in omega (arith, a, b, d, e)),
-      (let a = t.capacity in let b = v.7 in omega (arith, a, b)),
+      t.items ∙ ap (λ l. l ++ map stamped (flat (x ∷ []))) v.5 ∙ append_assoc (flat_map deque_items c.args.lists.now.items) (map stamped (flat at.yielded)) (map stamped (flat (x ∷ []))) ∙ ap (λ l. flat_map deque_items c.args.lists.now.items ++ l) (sym (map_join stamped (flat at.yielded) (flat (x ∷ [])))) ∙ ap (λ l. flat_map deque_items c.args.lists.now.items ++ map stamped l) (sym joined),
+      (let a = t.count in let b = v.6 in let d = length-append at.yielded (x ∷ []) in omega (arith, a, b, d)),
+      t.capacity ∙ v.7,
     )

@@ -1,7 +1,8 @@
-use Rattle.std.proofs.Common.{◌≡◌, ◌≤◌, ◌+◌, [], ◌++◌, length, map, vec_len, vec_capacity}
+use Rattle.std.proofs.Common.{◌≡◌, ◌+◌, [], ◌++◌, length, map, vec_len, vec_capacity}
 use Rattle.std.specs.Vec.Iter.{into_iter_items, into_iter_len}
 use Rattle.pg_book.specs.Gathering.{Gathered, spine_views}
 use Rattle.pg_book.specs.Closing.{stamped, flat}
+use Rattle.std.proofs.Common.{deque_items, flat_map}
 use Rattle.pg_book.proofs.close.take_spines.Given as goal
 
 abbrev pub invariant-loop-spine : goal.invariant-loop-spine
@@ -11,6 +12,6 @@ invariant-loop-spine g l =
     × (l.seat.table_id ≡ l.initial.seat.table_id)
     × (l.seat.me.1 ≡ [])
     × Gathered l.initial.seat.me.0.needs (spine_views l.yielded) l.seat.me.0
-    × (l.entries.items ≡ l.initial.entries.items ++ map stamped (flat l.yielded))
-    × (vec_len l.entries ≡ vec_len l.initial.entries + length (flat l.yielded))
-    × (vec_capacity l.initial.entries ≤ vec_capacity l.entries)
+    × (flat_map deque_items l.lists.items ≡ flat_map deque_items l.initial.lists.items ++ map stamped (flat l.yielded))
+    × (vec_len l.lists ≡ vec_len l.initial.lists + length l.yielded)
+    × (vec_capacity l.lists ≡ vec_capacity l.initial.lists)

@@ -1,4 +1,5 @@
-use Rattle.std.proofs.Common.{◌≡◌, List, ◌++◌, length, map, IsPermutation, refl, sym, ap, ◌∙◌, subst, arith}
+use Rattle.std.proofs.Common.{◌≡◌, List, ◌++◌, length, map, flat_map, deque_items, IsPermutation, refl, sym, ap, ◌∙◌, subst, arith}
+use Rattle.std.proofs.lemmas.List.Sorted.{IsPermutation-trans}
 use Rattle.pg_book.specs.declared.receipt.Stamped.{Stamped}
 use Rattle.pg_book.specs.Models.{BookOf, IsPassAt}
 use Rattle.pg_book.specs.Opening.{EachFrom}
@@ -16,9 +17,9 @@ take_spines-requires-clause-spines g c = (subst (λ (b : BookOf g.row.E.Denot). 
 
 pub take_spines-requires-clause-room : goal.take_spines-requires-clause-room
 take_spines-requires-clause-room g c =
-    let a = c.in-Ok.ensures.len in
-    let b = c.in-Ok.ensures.exact in
-    let d : c.in-Some.count ≡ length (flat c.args.spines.items) = c.in-Some.ensures ∙ ap (λ l. length (flat l)) c.as_slice.ensures.value in
+    let a = c.in-Some.ensures.no_lists.1 in
+    let b = c.in-Some.ensures.list_room in
+    let d = ap length c.as_slice.ensures.value in
     omega (arith, a, b, d)
 
 pub take_passes-requires-clause-view : goal.take_passes-requires-clause-view
@@ -45,6 +46,6 @@ returns-clause-closed g c =
     let p = subst (λ (b : BookOf g.row.E.Denot). ArePassesOf b passes) (sym c.self.view_is) c.requires.passes in
     let all = has_all needs spines passes c.take_spines.new.seat.me.0 c.take_passes.new.seat.me.0 s.count c.take_spines.ensures.view c.take_passes.ensures.view in
     let last = looked_gathered needs (spine_views spines ++ pass_views passes) c.take_passes.new.seat.me.0 c.look.new.seat.me.0 all c.look.ensures.looked in
-    let items : c.take_spines.new.entries.items ≡ map stamped (flat spines) = c.take_spines.ensures.items ∙ ap (λ l. l ++ map stamped (flat spines)) c.in-Ok.ensures.items in
-    let perm = subst (λ (l : List (Stamped g.row.E.Denot)). IsPermutation l c.in_order.result.items) items c.in_order.ensures.same in
+    let items : flat_map deque_items c.take_spines.new.lists.items ≡ map stamped (flat spines) = c.take_spines.ensures.items ∙ ap (λ l. flat_map deque_items l ++ map stamped (flat spines)) c.in-Some.ensures.no_lists.0 in
+    let perm = IsPermutation-trans _ _ _ (subst (λ (l : List (Stamped g.row.E.Denot)). IsPermutation l c.merged.result.items) items c.merged.ensures) c.in_order.ensures.same in
     history needs _ _ spines passes c.look.new.seat.me.0 last c.look.ensures.looked.sees s.count p.count s.each p.each c.in_order.result.items perm c.in_order.ensures.sorted
