@@ -30,6 +30,10 @@ use pg_io::{Gate, Moment, Pager};
 use std::alloc::Global;
 use std::marker::Model;
 use std::sync::{Mutex, MutexGuard, Wait};
+use std::thread;
+
+/// How often a lock is tried before the thread that wants it sleeps.
+const TRIES: u32 = 1000;
 
 /// The parts of a run, each behind a lock of its own, for workers who share them. What a worker draws goes into its pass and
 /// onto the part's spine.
@@ -65,6 +69,18 @@ impl<B: Naming, P: Pager, D: Digester> Model for Shared<B, P, D> {
       files = length shared.files.items;
       processes = length shared.processes.items;
     }) };
+}
+
+// The guard of a lock. A lock is seldom held for longer than it takes to wake a thread, so other threads are let run between
+// some tries before this one sleeps.
+fn locked<'a, T, R: Wait>(rt: &R, lock: &'a Mutex<T>) -> MutexGuard<'a, T> {
+    for _ in 0..TRIES {
+        if let Some(guard) = lock.try_lock() {
+            return guard;
+        }
+        thread::yield_now();
+    }
+    lock.lock(rt)
 }
 
 // The worker is at the start of a fault's event, under the file's lock.
@@ -128,7 +144,7 @@ impl<B: Naming, P: Pager, D: Digester> Shared<B, P, D> {
         ensures part { (mutex_guard_value result).spine.part ≡ file }
     {
         for _ in rt.forever() {
-            let cell = self.files[file as usize].lock(rt);
+            let cell = locked(rt, &self.files[file as usize]);
             if cell.part() == file {
                 return cell;
             }
@@ -143,7 +159,7 @@ impl<B: Naming, P: Pager, D: Digester> Shared<B, P, D> {
     {
         let part = self.files.len() as u32 + pid;
         for _ in rt.forever() {
-            let cell = self.processes[pid as usize].lock(rt);
+            let cell = locked(rt, &self.processes[pid as usize]);
             if cell.part() == part {
                 return cell;
             }
@@ -217,6 +233,6 @@ impl<B: Naming, P: Pager, D: Digester> Shared<B, P, D> {
             (shown B.plan pass.new) }
         ensures pass { IsPassOf B.plan who.worker pass.new }
     {
-        self.trusted.lock(rt).enter(pass, who, asked)
+        locked(rt, &self.trusted).enter(pass, who, asked)
     }
 }
