@@ -1,6 +1,6 @@
 //! Runs whose workers are held at the gate.
 
-use crate::tests::{FAULT, run_words};
+use crate::tests::{FAULT, run_at_once, run_words};
 use pg_bytes::Status;
 use pg_io::{Gate, Moment};
 use std::alloc::Global;
@@ -77,6 +77,9 @@ impl<R: Clock> Gate for Meeting<'_, R> {
 
 #[test]
 fn faults_on_eight_files_at_once(rt: HostRuntime) -> Result<(), Fail> {
+    if !run_at_once(&rt) {
+        return Ok(());
+    }
     let scene = eight_files(rt.alloc())?;
     let gate = Meeting::new(&rt, 8, FAULT, Moment::Inside);
     let (status, text) = run_words(&rt, &["s"], &scene, &gate)?;
@@ -88,6 +91,9 @@ fn faults_on_eight_files_at_once(rt: HostRuntime) -> Result<(), Fail> {
 
 #[test]
 fn made_scripts_at_once(rt: HostRuntime) -> Result<(), Fail> {
+    if !run_at_once(&rt) {
+        return Ok(());
+    }
     let gate = Meeting::new(&rt, 4, 0, Moment::Answered);
     let (status, text) = run_words(&rt, &["gen", "1"], "", &gate)?;
     assert_eq!(rt; status, Status::Done);
@@ -157,6 +163,9 @@ impl<R: Clock> Gate for Alone<'_, R> {
 
 #[test]
 fn two_faults_of_one_file_in_turn(rt: HostRuntime) -> Result<(), Fail> {
+    if !run_at_once(&rt) {
+        return Ok(());
+    }
     let gate = Alone {
         rt: &rt,
         came: AtomicU32::new(0),
@@ -172,5 +181,28 @@ fn two_faults_of_one_file_in_turn(rt: HostRuntime) -> Result<(), Fail> {
     assert!(rt; !gate.were_together.load(Ordering::SeqCst));
     assert!(rt; !gate.was_answered_early.load(Ordering::SeqCst));
     assert!(rt; text.ends_with("calls 8\ngiven 2\ndenied 0\n"));
+    Ok(())
+}
+
+/// One worker who faults a page.
+const ONE_SCRIPT: &str = "\
+scene 1
+raw A 12288 186
+process enforce
+admit dd2875b1ed5de5cda3421fc7fe4869ab72113510
+script
+spawn p0
+map p0 0x10000 f0 0 3 r-x private
+attach f0 0
+fault p0 0x10000 x
+";
+
+#[test]
+fn one_script_on_the_thread_that_asks(rt: HostRuntime) -> Result<(), Fail> {
+    let gate = Meeting::new(&rt, 1, FAULT, Moment::Inside);
+    let (status, text) = run_words(&rt, &["s"], ONE_SCRIPT, &gate)?;
+    assert_eq!(rt; status, Status::Done);
+    assert_eq!(rt; gate.there.load(Ordering::SeqCst), 0);
+    assert!(rt; text.ends_with("calls 4\ngiven 1\ndenied 0\n"));
     Ok(())
 }

@@ -10,7 +10,7 @@ mod words;
 mod worker;
 
 pub use running::run_opened;
-pub use shared::run_shared;
+pub use shared::{run_scripts, run_shared};
 pub use std::alloc::AllocError as NoMemory;
 pub use top::csrun_main;
 

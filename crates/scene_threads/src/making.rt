@@ -5,7 +5,7 @@ ghost use Rattle.pg_digest.specs.Digests.{sha_hash};
 ghost use Rattle.scene_threads.specs.Made.{PrintsMade};
 
 use crate::NoMemory;
-use crate::shared::run_shared;
+use crate::shared::run_scripts;
 use pg_bytes::Status;
 use pg_io::Gate;
 use scene_made::made;
@@ -39,7 +39,7 @@ fn summed<R: Threads + Wait + Sync, G: Gate + Sync>(
         Ok(opened) => opened,
         Err(status) => return Err(memory(status)),
     };
-    let history = run_shared(
+    let history = run_scripts(
         rt,
         alloc,
         &scene,

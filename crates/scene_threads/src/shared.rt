@@ -19,10 +19,11 @@ use pg_io::{Gate, MemPager};
 use pg_parts::Opened;
 use pg_shared::Ready;
 use pg_trusted::Trusted;
-use scene_run::{open_parts, run_alone};
-use scene_text::Scene;
+use scene_run::{open_parts, run_alone, run_solo};
+use scene_text::{Calls, Scene};
 use std::alloc::Global;
 use std::sync::Wait;
+use std::thread;
 use std::thread::Threads;
 
 // Runs the scripts over the parts of the scene's machine.
@@ -71,4 +72,41 @@ pub fn run_shared<R: Threads + Wait + Sync, G: Gate + Sync>(
 {
     let opened = open_parts(alloc, scene, files, layouts, trust)?;
     run_parts(rt, alloc, scene, opened, gate)
+}
+
+// How many processors this thread may run on, or one where that is not known.
+fn processors<R: Threads>(rt: &R) -> usize {
+    thread::available_parallelism(rt).map_or(1, |count| count.get())
+}
+
+// Whether scripts can run at once: there are two or more, and as many processors.
+fn can_run_at_once<R: Threads>(rt: &R, scripts: &[Calls]) -> bool {
+    scripts.len() > 1 && processors(rt) > 1
+}
+
+/// Runs the scripts of a scene by `run_shared` where two can run at once, and else by `run_solo`: with one script or one
+/// processor, locks and threads would take time and gain none. The history is legal and sound either way, and the only error
+/// is want of memory. On one thread no worker passes the gate.
+pub fn run_scripts<R: Threads + Wait + Sync, G: Gate + Sync>(
+    rt: &R,
+    alloc: Global,
+    scene: &Scene,
+    files: Vec<MemPager>,
+    layouts: Vec<Layout>,
+    trust: Trusted,
+    gate: &G,
+) -> Result<Vec<Stamped<Entry>>, NoMemory>
+    requires within { IsWithin (scene_lines scene.now) }
+    requires opening { IsOpeningFor scene.now
+        (opening_with scene.now.head files.items layouts.items trust) }
+    requires paired { vec_len files ≡ vec_len layouts }
+    ensures { IfOk result (λ history. IsSound sha_hash
+        (opening_with scene.now.head files.items layouts.items trust)
+        scene.now.scripts history.items) }
+{
+    if can_run_at_once(rt, scene.scripts.items()) {
+        run_shared(rt, alloc, scene, files, layouts, trust, gate)
+    } else {
+        run_solo(alloc, scene, files, layouts, trust)
+    }
 }

@@ -11,7 +11,7 @@ ghost use Rattle.scene_threads.specs.Words.{ArePath, made_number, EndsByWords};
 ghost use Rattle.scene_threads.specs.Made.{OpensMade, EndsMade};
 
 use crate::making::made_summary;
-use crate::shared::run_shared;
+use crate::shared::run_scripts;
 use crate::words::{Request, asked};
 use pg_bytes::Status;
 use pg_io::{Files, Gate, Sink};
@@ -39,7 +39,7 @@ fn shared_journal<R: Threads + Wait + Sync, F: Files, G: Gate + Sync>(
         Ok(both) => both,
         Err(status) => return Err(status),
     };
-    let history = run_shared(
+    let history = run_scripts(
         rt,
         alloc,
         &scene,
@@ -60,9 +60,10 @@ fn shared_journal<R: Threads + Wait + Sync, F: Files, G: Gate + Sync>(
 /// Runs `csrun` with these words, which do not name the program: one word is the path of a scene, or two are `solo` and the
 /// path, or `gen` and a number from 1 to 1,000 without leading zeros. The scripts of the scene are run over the files and
 /// trust caches that it names, and the journal of their history is written. Behind `gen` it is the scene that is made of the
-/// number, with its own files, and the summary is written. Behind `solo` the scripts are run one after another; else script i
-/// is run by worker i, on a thread where one can be had. A worker passes the gate at the start of each fault's event on a
-/// file, under the file's lock, and after each of its calls; no clause speaks of that.
+/// number, with its own files, and the summary is written. Script i is run by worker i. Behind `solo`, and with one script or
+/// one processor, the scripts are run one after another; else each is run on a thread, where one can be had, and its worker
+/// passes the gate at the start of each fault's event on a file, under the file's lock, and after each of its calls. No clause
+/// speaks of that.
 ///
 /// The status is Done where the whole journal or summary went out. Of the others Usage is for other words; SceneBad for a scene with a
 /// bad line; FileFault for a file that could not be read, with its item's number, 0 for the scene; Limit for the first limit
