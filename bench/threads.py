@@ -1,6 +1,6 @@
 #!/usr/bin/env python3
-"""Times `csrun SCENE`, which runs each script on a thread of its own, beside `csrun solo SCENE`, on one, two and four
-processors.
+"""Times `csrun SCENE`, which runs each script on a thread of its own where there are two scripts and two processors or more,
+beside `csrun solo SCENE`, on one, two and four processors.
 
 Run at the top of the repository after the gate, which leaves the program built: `bench/threads.py [ROUNDS]`, where ROUNDS is
 how often each is run (9); times are from the best round, and both programs are run by turns. A row for each scene and number
